@@ -6,7 +6,7 @@ ghost use Rattle.fixture_board.specs.History.{best_of};
 ghost use Rattle.fixture_board.specs.Record.{Book};
 ghost use Rattle.policy.specs.Legs.{IsLeg, IsWeightCourse};
 ghost use Rattle.search.specs.Draws.{AreRoundsOf};
-ghost use Rattle.search.specs.Heard.{AreTold};
+ghost use Rattle.search.specs.Heard.{AreReported};
 ghost use Rattle.annealing.specs.within.Heats.{block_count};
 ghost use Rattle.annealing.specs.Legs.{IsAnnealed, total_in};
 ghost use Rattle.annealing.specs.within.Progress.{HasHeated, IsEndOf, IsGoing, IsWithin, progress_of};
@@ -19,7 +19,7 @@ use crate::weights::weight_after;
 use fixture_board::Board;
 use policy::{Course, Leg, LegEnd};
 use rand_pcg::Lcg64Xsh32;
-use search::{Draws, Gate, Progress, Workplace};
+use search::{Draws, Gate, Progress, RunContext};
 use std::alloc::{AllocError, Global};
 use std::sync::Wait;
 
@@ -35,13 +35,13 @@ struct Going {
     accepted: u64,
 }
 
-/// Takes a leg's steps on the chain, in blocks of a thousand, and tells the workplace's gate of each block, as worker 0. A step draws a word for its
+/// Takes a leg's steps on the chain, in blocks of a thousand, and reports each block to the run context's gate, as worker 0. A step draws a word for its
 /// threshold and a move of the leg's kinds. The move is made, under caller 0, if it can be and the score doesn't rise above the threshold.
 ///
 /// If the board has too little room for a block, it is taken back to its best version. If that leaves too little too, the leg begins anew at
 /// the league's start. In the end the chain has the board with the least total of all.
 pub fn anneal<R: Wait, G: Gate>(
-    workplace: Workplace<'_, R, G>,
+    run_context: RunContext<'_, R, G>,
     conditions: Conditions<'_>,
     chain: Chain,
     plan: LegPlan,
@@ -50,9 +50,9 @@ pub fn anneal<R: Wait, G: Gate>(
     requires weights { IsWeightCourse conditions.weights }
     requires rounds { AreRoundsOf (teams chain.board.league) conditions.rounds.now }
     ensures annealed { IfOk result (IsAnnealed conditions.entry.weights plan.leg chain) }
-    ensures told { IfOk result (λ now. AreTold (G.was_told workplace.entry.gate.now 0) now.end.steps) }
+    ensures reported { IfOk result (λ now. AreReported (G.was_reported run_context.entry.gate.now 0) now.end.steps) }
 {
-    let Workplace { rt, alloc, gate } = workplace;
+    let RunContext { rt, alloc, gate } = run_context;
     let Chain { board, weight } = chain;
     let leg = plan.leg;
     let mut going = Going {
@@ -67,7 +67,7 @@ pub fn anneal<R: Wait, G: Gate>(
     };
     for number in 0..block_count(leg) {
         let tally = going.take_block(alloc, conditions, leg, number)?;
-        gate.told(rt, 0, going.progress(tally));
+        gate.reported(rt, 0, going.progress(tally));
         if going.may_end(leg) {
             return Ok(going.end(leg));
         }

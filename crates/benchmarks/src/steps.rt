@@ -1,6 +1,6 @@
 //! Steps of one worker of a search.
 
-ghost use Rattle.search.specs.within.Crews.{IsFresh};
+ghost use Rattle.search.specs.within.RunParts.{IsFresh};
 
 use crate::plan::Plan;
 use crate::tries::SEED;

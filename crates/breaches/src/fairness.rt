@@ -7,7 +7,7 @@ ghost use Rattle.fixtures.specs.Games.{round_count, IsPair};
 ghost use Rattle.robinx.specs.Deviations.{home_games, gap, rounds_between, worst_gap};
 ghost use Rattle.breaches.specs.Breaches.{worst_round};
 
-use crate::counts::over;
+use crate::place_counts::over;
 use fixtures::Schedule;
 use league::SlotSet;
 

@@ -6,13 +6,13 @@
 
 mod breach;
 mod cells;
-mod counts;
 mod fairness;
 mod laws;
 mod lines;
 mod list;
 mod made_of;
 mod marks;
+mod place_counts;
 mod places;
 mod terms;
 

@@ -6,8 +6,8 @@ ghost use Rattle.league.specs.RuleLimits.{IsBodyFor};
 ghost use Rattle.robinx.specs.Deviations.{over};
 ghost use Rattle.breaches.specs.within.Terms.{amount, column_count, is_of_rule, named_at, place_at, row_count, term};
 
-use crate::counts::{count_at, count_listed, over};
 use crate::fairness::{rounds_between, worst_gap};
+use crate::place_counts::{count_at, count_listed, over};
 use crate::places::place_at;
 use fixtures::Schedule;
 use league::RuleBody;

@@ -11,7 +11,7 @@ use crate::fault::ProgramFault;
 use crate::verdict::Verdict;
 use beginnings::Beginning;
 use improvement::{ImprovePlan, NoWatcher, Watcher};
-use search::{Gate, Workplace};
+use search::{Gate, RunContext};
 use std::sync::Wait;
 use std::thread::Threads;
 use streams::{Sink, Source, read_all};
@@ -19,12 +19,12 @@ use streams::{Sink, Source, read_all};
 /// Reads a league to the end of the source, anneals its schedule in the legs of the policy, and writes a line for each leg and each
 /// better schedule as soon as it is known, then the history that leads to the best. That history, given to `play` as a script,
 /// leads to the same best. Nothing is written before the faults of reading and a wrong number of workers are past. After any
-/// other fault what was written stands. The workplace's gate is told how far the legs are. The verdict tells whether a feasible
+/// other fault what was written stands. The run context's gate is told how far the legs are. The verdict tells whether a feasible
 /// schedule was found.
 ///
 /// The outcome is that of [`improve_from`]. What the source became is some later state of it, which nobody can ask.
 pub fn improve<T: Threads + Wait + Sync, G: Gate + Sync, R: Source + Drop, W: Sink>(
-    workplace: Workplace<'_, T, G>,
+    run_context: RunContext<'_, T, G>,
     mut source: R,
     sink: &mut W,
     plan: ImprovePlan,
@@ -35,12 +35,12 @@ pub fn improve<T: Threads + Wait + Sync, G: Gate + Sync, R: Source + Drop, W: Si
         × EndsImprove R.left R.tally W.held W.tally plan (value_of result)
         source after sink.old sink.new (without_value result) }
 {
-    improve_from(workplace, &mut source, sink, plan)
+    improve_from(run_context, &mut source, sink, plan)
 }
 
 /// As [`improve`], from a source that is lent.
 pub fn improve_from<T: Threads + Wait + Sync, G: Gate + Sync, R: Source, W: Sink>(
-    workplace: Workplace<'_, T, G>,
+    run_context: RunContext<'_, T, G>,
     source: &mut R,
     sink: &mut W,
     plan: ImprovePlan,
@@ -50,14 +50,14 @@ pub fn improve_from<T: Threads + Wait + Sync, G: Gate + Sync, R: Source, W: Sink
     ensures { EndsImprove R.left R.tally W.held W.tally plan (value_of result)
         source.old source.new sink.old sink.new (without_value result) }
 {
-    let input = read_all(workplace.alloc, source)?;
-    improve_on(workplace, &input, None, sink, plan, NoWatcher)
+    let input = read_all(run_context.alloc, source)?;
+    improve_on(run_context, &input, None, sink, plan, NoWatcher)
 }
 
 /// As [`improve`], of a league's text that was read, where the league is to begin: at its own start, if nothing else is said. The watcher
 /// is told of each leg that has ended.
 pub fn improve_on<T: Threads + Wait + Sync, G: Gate + Sync, W: Sink, V: Watcher<W> + Drop>(
-    workplace: Workplace<'_, T, G>,
+    run_context: RunContext<'_, T, G>,
     league: &[u8],
     beginning: Option<&Beginning<'_>>,
     sink: &mut W,
@@ -70,7 +70,7 @@ pub fn improve_on<T: Threads + Wait + Sync, G: Gate + Sync, W: Sink, V: Watcher<
     ensures { EndsImproveOn W.held W.tally plan (value_of result) league.now (option_map (λ b. b.now) beginning.entry)
         sink.old sink.new (without_value result) }
 {
-    let league = begun_league(workplace.alloc, league, beginning)?;
-    let best = improvement::improve(workplace, league, plan, sink, watcher)?;
+    let league = begun_league(run_context.alloc, league, beginning)?;
+    let best = improvement::improve(run_context, league, plan, sink, watcher)?;
     Ok(Verdict::of(best.is_some()))
 }

@@ -2,11 +2,11 @@
 
 ghost use Rattle.commands.specs.MadeLeague.{AnswersLeague};
 ghost use Rattle.commands.specs.Outcome.{value_of, without_value, Ends, EndsOn};
-ghost use Rattle.distance_tables.specs.League.{AreTerms};
+ghost use Rattle.distance_tables.specs.League.{AreSettings};
 ghost use Rattle.distance_tables.specs.LeagueText.{said_by};
 
 use crate::fault::{ProgramFault, after_writing};
-use distance_tables::{Symmetry, Terms, league_from_table};
+use distance_tables::{Settings, Symmetry, league_from_table};
 use std::alloc::Global;
 use streams::{Sink, Source, read_all, write_all};
 
@@ -19,13 +19,13 @@ pub fn league<R: Source + Drop, W: Sink>(
     mut source: R,
     sink: &mut W,
     choice: Option<Symmetry>,
-    terms: Terms<'_>,
+    settings: Settings<'_>,
 ) -> Result<u64, ProgramFault>
-    requires { AreTerms (said_by terms) }
-    ensures { (after : R) × Ends R.left R.tally W.held W.tally (AnswersLeague choice (said_by terms.entry) (value_of result))
+    requires { AreSettings (said_by settings) }
+    ensures { (after : R) × Ends R.left R.tally W.held W.tally (AnswersLeague choice (said_by settings.entry) (value_of result))
         source after sink.old sink.new (without_value result) }
 {
-    league_from(alloc, &mut source, sink, choice, terms)
+    league_from(alloc, &mut source, sink, choice, settings)
 }
 
 /// As [`league`], from a source that is lent.
@@ -34,14 +34,14 @@ pub fn league_from<R: Source, W: Sink>(
     source: &mut R,
     sink: &mut W,
     choice: Option<Symmetry>,
-    terms: Terms<'_>,
+    settings: Settings<'_>,
 ) -> Result<u64, ProgramFault>
-    requires { AreTerms (said_by terms) }
-    ensures { Ends R.left R.tally W.held W.tally (AnswersLeague choice (said_by terms.entry) (value_of result))
+    requires { AreSettings (said_by settings) }
+    ensures { Ends R.left R.tally W.held W.tally (AnswersLeague choice (said_by settings.entry) (value_of result))
         source.old source.new sink.old sink.new (without_value result) }
 {
     let table = read_all(alloc, source)?;
-    league_on(alloc, &table, sink, choice, terms)
+    league_on(alloc, &table, sink, choice, settings)
 }
 
 /// As [`league`], of a table that was read.
@@ -50,11 +50,11 @@ pub fn league_on<W: Sink>(
     table: &[u8],
     sink: &mut W,
     choice: Option<Symmetry>,
-    terms: Terms<'_>,
+    settings: Settings<'_>,
 ) -> Result<u64, ProgramFault>
-    requires { AreTerms (said_by terms) }
-    ensures { EndsOn W.held W.tally (AnswersLeague choice (said_by terms.entry) (value_of result) table.now) sink.old sink.new (without_value result) }
+    requires { AreSettings (said_by settings) }
+    ensures { EndsOn W.held W.tally (AnswersLeague choice (said_by settings.entry) (value_of result) table.now) sink.old sink.new (without_value result) }
 {
-    let made = league_from_table(alloc, table, choice, terms)?;
+    let made = league_from_table(alloc, table, choice, settings)?;
     after_writing(write_all(sink, &made.text), made.rounded)
 }

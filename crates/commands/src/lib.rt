@@ -16,7 +16,7 @@ mod start_command;
 mod verdict;
 
 pub use beginnings::Beginning;
-pub use distance_tables::{DistanceFault, Symmetry, Terms, is_title};
+pub use distance_tables::{DistanceFault, Settings, Symmetry, is_title};
 pub use fault::ProgramFault;
 pub use hints::hint_on;
 pub use improve_command::{improve, improve_from, improve_on};
@@ -27,7 +27,7 @@ pub use policy::MOST_EFFORT;
 pub use progress::{Extent, ProgressLine};
 pub use report_command::{report, report_from, report_on};
 pub use report_formats::{CsvForm, Format, Separator};
-pub use search::{Gate, NoGate, Outcome, SearchPlan, Workplace};
+pub use search::{Gate, NoGate, Outcome, RunContext, SearchPlan};
 pub use search_command::{find, find_from, find_on};
 pub use search_end::SearchEnd;
 pub use search_text::search_report;

@@ -18,10 +18,10 @@ use texts::{Advance, write_clear, write_progress};
 /// How many milliseconds pass between two lines.
 const PAUSE: u128 = 250;
 
-/// If fewer milliseconds passed between two tellings, the workers tell half as often.
+/// If fewer milliseconds passed between two reports, the workers report half as often.
 const SOON: u128 = 8;
 
-/// If more passed, they tell twice as often.
+/// If more passed, they report twice as often.
 const LATE: u128 = 64;
 
 /// The most steps between two tellings of a worker.
@@ -36,11 +36,11 @@ pub enum Extent {
     Seconds(u32),
 }
 
-/// Writes on a terminal how many steps the workers took, the least total that they told of, and how long the other steps may
+/// Writes on a terminal how many steps the workers took, the least total that they reported, and how long the other steps may
 /// take. The line is written a few times a second, each over the one before. At an end it is written a last time and taken
 /// away, so that a text can be written. If workers begin after that, the next telling writes it again. No worker waits for the
-/// terminal but the one that writes: what is told meanwhile stands in the next line. Contracts say what is counted and what each line is, but
-/// not that a gate is told of each step and each end.
+/// terminal but the one that writes: what is reported meanwhile stands in the next line. Contracts say what is counted and what each line is, but
+/// not that each step and each end is reported to a gate.
 #[derive(Drop)]
 pub struct ProgressLine<'a, C, W> {
     clock: &'a C,
@@ -68,7 +68,7 @@ impl<'a, C: Clock, W: Sink> ProgressLine<'a, C, W> {
             extent,
             since: None,
             last: None,
-            told: None,
+            reported: None,
             pause: 1,
             written: false,
             taken: false,
@@ -86,7 +86,7 @@ impl<'a, C: Clock, W: Sink> ProgressLine<'a, C, W> {
 impl<C: Clock, W: Sink> Gate for ProgressLine<'_, C, W> {
     ghost heard = { λ _ _ _ _. Unit {0} };
 
-    ghost was_told = { λ _ _ _. Unit {0} };
+    ghost was_reported = { λ _ _ _. Unit {0} };
 
     fn enter<R: Wait>(&self, _rt: &R, _worker: u32, _made: u32) {}
 
@@ -102,7 +102,7 @@ impl<C: Clock, W: Sink> Gate for ProgressLine<'_, C, W> {
         self.pause.load(Ordering::SeqCst)
     }
 
-    fn told<R: Wait>(&self, rt: &R, _worker: u32, progress: Progress) {
+    fn reported<R: Wait>(&self, rt: &R, _worker: u32, progress: Progress) {
         self.reached.lock(rt).add(progress);
         let Some(mut line) = self.line.try_lock() else {
             return;
@@ -134,14 +134,14 @@ struct Reached {
 }
 
 impl Reached {
-    /// Takes in what one worker tells.
+    /// Takes in what one worker reports.
     fn add(&mut self, progress: Progress)
         ensures { self.new ≡ reached_with self.old progress }
     {
         self.steps = self.steps.saturating_add(u64::from(progress.steps));
         self.least = match (self.least, progress.least) {
-            (Some(known), Some(told)) => Some(known.min(told)),
-            (known, told) => known.or(told),
+            (Some(known), Some(reported)) => Some(known.min(reported)),
+            (known, reported) => known.or(reported),
         };
     }
 }
@@ -155,9 +155,9 @@ struct Line<W> {
     since: Option<Instant>,
     /// When the line was written or taken away last or, before the first one, was first asked for.
     last: Option<Instant>,
-    /// When a worker last told.
-    told: Option<Instant>,
-    /// After how many steps a worker tells.
+    /// When a worker last reported.
+    reported: Option<Instant>,
+    /// After how many steps a worker reports.
     pause: u32,
     /// Whether the line was ever written.
     written: bool,
@@ -171,27 +171,27 @@ impl<W: Sink> Line<W> {
     /// Notes when the first worker began, and that one has.
     fn begin(&mut self, now: Instant)
         ensures { self.new ≡ record self.old
-            { since = first self.old.since now; last = first self.old.last now; told = first self.old.told now; again = self.old.taken } }
+            { since = first self.old.since now; last = first self.old.last now; reported = first self.old.reported now; again = self.old.taken } }
     {
         self.again = self.taken;
         self.since = self.since.or(Some(now));
         self.last = self.last.or(Some(now));
-        self.told = self.told.or(Some(now));
+        self.reported = self.reported.or(Some(now));
     }
 
-    /// Has the workers tell some hundred times a second at most, and a few times if a step takes long.
+    /// Has the workers report some hundred times a second at most, and a few times if a step takes long.
     fn pace(&mut self, now: Instant)
-        ensures { self.new ≡ record self.old { pause = pause_after self.old.pause self.old.told now; told = Some now } }
+        ensures { self.new ≡ record self.old { pause = pause_after self.old.pause self.old.reported now; reported = Some now } }
     {
-        if let Some(told) = self.told {
-            let passed = now.duration_since(told).as_millis();
+        if let Some(reported) = self.reported {
+            let passed = now.duration_since(reported).as_millis();
             if passed < SOON {
                 self.pause = self.pause.min(MOST_STEPS / 2) * 2;
             } else if LATE < passed {
                 self.pause = (self.pause / 2).max(1);
             }
         }
-        self.told = Some(now);
+        self.reported = Some(now);
     }
 
     /// Whether the line is to be written now: if it is to come again, or stood or was away long enough. Notes the time if it is, or if

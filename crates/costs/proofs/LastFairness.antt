@@ -1,4 +1,4 @@
--- What the last rule of class FA2 adds to the score, and how it is told.
+-- What the last rule of class FA2 adds to the score, and how it is predicted.
 use Rattle.std.proofs.Common.{◌≡◌, ℕ, zero, suc, ◌+◌, ◌*◌, ◌/◌, ◌<◌, ◌≤◌, ◌&&◌, Bool, true, false, if◌then◌else◌, length}
 use Rattle.std.proofs.Common.{nat_le, inl, inr, List, slice_get, Option, Some, None, is_some, unwrap_or, refl, sym, ap, ◌∙◌, subst, le_refl, arith}
 use Rattle.std.specs.Option.{option_map_or}

@@ -4,5 +4,5 @@ pub mod PartLimits
 pub mod Walked
 pub mod Partial
 pub mod LastFairness
-pub mod CountsKept
+pub mod KeptDeviations
 pub mod ForCallers

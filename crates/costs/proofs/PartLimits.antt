@@ -14,7 +14,7 @@ use Rattle.tours.specs.Phased.{is_unphased, unphased, unphased_part}
 use Rattle.fixtures.specs.declared.exchanges.Exchange.{Exchange}
 use Rattle.robinx.proofs.ForCallers.{part_le}
 use Rattle.costs.specs.Costs.{hard_penalty, soft_penalty, penalty_of, sum_over_rules, near_cost, cost_of}
-use Rattle.costs.specs.within.CostParts.{games_cost, rule_part, rules_part, penalties_part, IsTold}
+use Rattle.costs.specs.within.CostParts.{games_cost, rule_part, rules_part, penalties_part, IsPredicted}
 use Rattle.costs.specs.declared.cost.Cost.{Cost}
 use Rattle.costs.specs.declared.scope.Scope.{Scope}
 
@@ -77,10 +77,10 @@ pub soft_nothing : (weight : Weight) → soft_penalty weight 0 ≡ 0
 soft_nothing Hard = refl
 soft_nothing (Soft weight) = omega arith
 
--- what is left of a told cost without penalties
-module _ (l : LeagueData) (scope : Scope) (g : Games) (exchange : Exchange) (told : Cost) (is : IsTold l g exchange told) where
-  pub hard_fits : (penalties_part l scope g).hard ≤ told.hard
+-- what is left of a predicted cost without penalties
+module _ (l : LeagueData) (scope : Scope) (g : Games) (exchange : Exchange) (predicted : Cost) (is : IsPredicted l g exchange predicted) where
+  pub hard_fits : (penalties_part l scope g).hard ≤ predicted.hard
   hard_fits = omega (arith, is.hard, hard_le l scope g)
 
-  pub soft_fits : (penalties_part l scope g).soft ≤ told.soft
+  pub soft_fits : (penalties_part l scope g).soft ≤ predicted.soft
   soft_fits = omega (arith, is.soft, soft_le l scope g)

@@ -30,7 +30,7 @@ use Rattle.robinx.specs.Parts.{deviation_part}
 use Rattle.robinx.proofs.ForCallers.{deviation_balance}
 use Rattle.costs.specs.Costs.{hard_penalty, soft_penalty, penalty_of, sum_over_rules, where_phased, cost_of, score_by, score_of}
 use Rattle.costs.specs.Costs.{near_cost, score_limit, IsCostWithin}
-use Rattle.costs.specs.within.CostParts.{games_cost, rule_part, rules_part, penalties_part, with_penalties, IsRest, IsScope, IsTold}
+use Rattle.costs.specs.within.CostParts.{games_cost, rule_part, rules_part, penalties_part, with_penalties, IsRest, IsScope, IsPredicted}
 use Rattle.costs.specs.declared.scope.Scope.{Scope}
 use Rattle.costs.specs.declared.cost.Cost.{Cost}
 use Rattle.costs.specs.declared.penalties.Penalties.{Penalties}
@@ -145,22 +145,22 @@ penalties_balance l g scope is same are = record {
 pub same_cost : (one other : Cost) → one.travel ≡ other.travel → one.hard ≡ other.hard → one.soft ≡ other.soft → one ≡ other
 same_cost one other travel hard soft = rw (travel, hard, soft) refl
 
--- a told cost without the penalties that the exchange can change, counted before it
-pub record IsWithout (l : LeagueData) (g : Games) (scope : Scope) (told rest : Cost) : Type 0 where
-  pub travel_is : rest.travel ≡ told.travel
-  pub hard : rest.hard + (penalties_part l scope g).hard ≡ told.hard
-  pub soft : rest.soft + (penalties_part l scope g).soft ≡ told.soft
+-- a predicted cost without the penalties that the exchange can change, counted before it
+pub record IsWithout (l : LeagueData) (g : Games) (scope : Scope) (predicted rest : Cost) : Type 0 where
+  pub travel_is : rest.travel ≡ predicted.travel
+  pub hard : rest.hard + (penalties_part l scope g).hard ≡ predicted.hard
+  pub soft : rest.soft + (penalties_part l scope g).soft ≡ predicted.soft
 
-pub rest_after : (l : LeagueData) (g : Games) (scope : Scope) (told rest : Cost) → IsLeague l → teams l ≡ g.teams →
-    IsScope g scope → IsTold l g scope.attempt.exchange.now told → IsWithout l g scope told rest →
+pub rest_after : (l : LeagueData) (g : Games) (scope : Scope) (predicted rest : Cost) → IsLeague l → teams l ≡ g.teams →
+    IsScope g scope → IsPredicted l g scope.attempt.exchange.now predicted → IsWithout l g scope predicted rest →
     IsRest l scope (exchanged_by g scope.attempt.exchange.now) rest
-rest_after l g scope told rest is same are known without =
+rest_after l g scope predicted rest is same are known without =
     let balance : Balances l g (exchanged_by g scope.attempt.exchange.now) scope = penalties_balance l g scope is same are in
     same_cost _ _ (without.travel_is ∙ known.travel_is ∙ sym (cost_travel l (exchanged_by g scope.attempt.exchange.now)))
     (omega (arith, without.hard, known.hard, balance.hard))
     (omega (arith, without.soft, known.soft, balance.soft))
 
--- a told cost where no rule and no half is counted
+-- a predicted cost where no rule and no half is counted
 
 no_rules : (penalty : Weight → ℕ → ℕ) (l : LeagueData) (g : Games) → length l.rules ≡ 0 → sum_over_rules penalty l.rules g ≡ 0
 unfolding sum_over_rules
@@ -175,10 +175,10 @@ no_soft : (l : LeagueData) (g : Games) → length l.rules ≡ 0 → (cost_of l g
 unfolding cost_of
 no_soft l g none = omega (arith, no_rules soft_penalty l g none)
 
-told_whole : (l : LeagueData) (g : Games) (exchange : Exchange) (told : Cost) → IsTold l g exchange told → length l.rules ≡ 0 →
-    l.phased ≡ false → told ≡ cost_of l (exchanged_by g exchange)
-told_whole l g exchange told is none whole =
-    same_cost told (cost_of l (exchanged_by g exchange)) (is.travel_is ∙ sym (cost_travel l (exchanged_by g exchange)))
+predicted_whole : (l : LeagueData) (g : Games) (exchange : Exchange) (predicted : Cost) → IsPredicted l g exchange predicted → length l.rules ≡ 0 →
+    l.phased ≡ false → predicted ≡ cost_of l (exchanged_by g exchange)
+predicted_whole l g exchange predicted is none whole =
+    same_cost predicted (cost_of l (exchanged_by g exchange)) (is.travel_is ∙ sym (cost_travel l (exchanged_by g exchange)))
     (omega (arith, is.hard, games_alone l g none whole, games_alone l (exchanged_by g exchange) none whole))
     (omega (arith, is.soft, no_soft l g none, no_soft l (exchanged_by g exchange) none))
 
@@ -204,17 +204,17 @@ pub score_fits_after : (l : LeagueData) (g : Games) (exchange : Exchange) (weigh
     score_by weight (cost_of l (exchanged_by g exchange)) < 2 ^ 64
 score_fits_after l g exchange weight is same = score_fits l (exchanged_by g exchange) weight is (exchanged-teams g exchange ∙ sym same)
 
--- a told cost that is the cost after
-pub record IsWhole (l : LeagueData) (weight : ℕ) (after : Games) (told : Cost) : Type 0 where
-  pub is : told ≡ cost_of l after
-  pub score_is : score_by weight told ≡ score_by weight (cost_of l after)
-  pub fits : score_by weight told < 2 ^ 64
-  pub small : score_of l told < score_limit
+-- a predicted cost that is the cost after
+pub record IsWhole (l : LeagueData) (weight : ℕ) (after : Games) (predicted : Cost) : Type 0 where
+  pub is : predicted ≡ cost_of l after
+  pub score_is : score_by weight predicted ≡ score_by weight (cost_of l after)
+  pub fits : score_by weight predicted < 2 ^ 64
+  pub small : score_of l predicted < score_limit
 
-pub told_alone : {l : LeagueData} {g : Games} {exchange : Exchange} {told : Cost} (weight : ℕ) → weight < 2 ^ 32 → IsTold l g exchange told →
-    IsLeague l → teams l ≡ g.teams → length l.rules ≡ 0 → l.phased ≡ false → IsWhole l weight (exchanged_by g exchange) told
-told_alone {l} {g} {exchange} {told} weight few known is same none whole =
-    let cost_is : told ≡ cost_of l (exchanged_by g exchange) = told_whole l g exchange told known none whole in
+pub predicted_alone : {l : LeagueData} {g : Games} {exchange : Exchange} {predicted : Cost} (weight : ℕ) → weight < 2 ^ 32 → IsPredicted l g exchange predicted →
+    IsLeague l → teams l ≡ g.teams → length l.rules ≡ 0 → l.phased ≡ false → IsWhole l weight (exchanged_by g exchange) predicted
+predicted_alone {l} {g} {exchange} {predicted} weight few known is same none whole =
+    let cost_is : predicted ≡ cost_of l (exchanged_by g exchange) = predicted_whole l g exchange predicted known none whole in
     record {
       is = cost_is;
       score_is = ap (score_by weight) cost_is;

@@ -1,2 +1,2 @@
 pub mod CostParts
-pub mod CountsKept
+pub mod KeptDeviations

@@ -8,12 +8,12 @@ ghost use Rattle.league.specs.Sets.{has};
 ghost use Rattle.tours.specs.Phased.{unphased_part};
 ghost use Rattle.fixtures.specs.Exchanges.{exchanged_by};
 ghost use Rattle.costs.specs.Costs.{cost_of, score_by, where_phased, IsCostWithin};
-ghost use Rattle.costs.specs.within.CostParts.{IsRest, IsScope, IsTold, KnowsRules};
-ghost use Rattle.costs.specs.within.CountsKept.{AreCounts, AreRests, IsKeptOf};
+ghost use Rattle.costs.specs.within.CostParts.{IsPredicted, IsRest, IsScope, KnowsRules};
+ghost use Rattle.costs.specs.within.KeptDeviations.{AreKeptDeviations, AreRests, IsKeptOf};
 
 use crate::cost::Cost;
-use crate::counts::Counts;
 use crate::fairness::leaves_room;
+use crate::kept_deviations::KeptDeviations;
 use crate::penalties::Penalties;
 use crate::rule_costs::parts_of_rules;
 use crate::scope::Scope;
@@ -22,30 +22,30 @@ use league::League;
 use robinx::deviation_part;
 use tours::unphased_part;
 
-/// A told cost without the penalties that the exchange can change.
+/// A predicted cost without the penalties that the exchange can change.
 fn rest_of(
     schedule: &Schedule,
     league: &League,
-    counts: &mut Counts,
+    deviations: &mut KeptDeviations,
     scope: &Scope<'_>,
-    told: Cost,
+    predicted: Cost,
 ) -> Cost
     requires same_size { teams league.now ≡ schedule.now.teams }
     requires scope { IsScope schedule.now scope.now }
     requires rules { KnowsRules league.now scope.now }
-    requires counts { AreCounts league.now.rules schedule.now counts.old }
-    requires told { IsTold league.now schedule.now scope.now.attempt.exchange.now told }
+    requires deviations { AreKeptDeviations league.now.rules schedule.now deviations.old }
+    requires predicted { IsPredicted league.now schedule.now scope.now.attempt.exchange.now predicted }
     ensures rest { IsRest league.now scope.now (exchanged_by schedule.now scope.now.attempt.exchange.now) result }
-    ensures counts { AreCounts league.now.rules schedule.now counts.new }
-    ensures same { IsKeptOf counts.new counts.old }
-    ensures rests { counts.new.is_known ≡ true → AreRests league.now.rules scope.now scope.now.rules schedule.now counts.new.next }
+    ensures deviations { AreKeptDeviations league.now.rules schedule.now deviations.new }
+    ensures same { IsKeptOf deviations.new deviations.old }
+    ensures rests { deviations.new.is_known ≡ true → AreRests league.now.rules scope.now scope.now.rules schedule.now deviations.new.next }
 {
     prove_eq!(league.teams(), schedule.teams());
-    let rules = parts_of_rules(schedule, league, counts, scope);
+    let rules = parts_of_rules(schedule, league, deviations, scope);
     Cost {
-        travel: told.travel,
-        hard: told.hard - phases_part(schedule, league, scope.main) - rules.hard,
-        soft: told.soft - rules.soft,
+        travel: predicted.travel,
+        hard: predicted.hard - phases_part(schedule, league, scope.main) - rules.hard,
+        soft: predicted.soft - rules.soft,
     }
 }
 
@@ -54,28 +54,28 @@ fn rest_of(
 pub(crate) fn rest_within(
     schedule: &Schedule,
     league: &League,
-    counts: &mut Counts,
+    deviations: &mut KeptDeviations,
     scope: &Scope<'_>,
-    told: Cost,
+    predicted: Cost,
 ) -> Option<Cost>
     requires same_size { teams league.now ≡ schedule.now.teams }
     requires scope { IsScope schedule.now scope.now }
     requires rules { KnowsRules league.now scope.now }
     requires weight { 1 ≤ scope.now.attempt.weight }
-    requires counts { AreCounts league.now.rules schedule.now counts.old }
-    requires told { IsTold league.now schedule.now scope.now.attempt.exchange.now told }
+    requires deviations { AreKeptDeviations league.now.rules schedule.now deviations.old }
+    requires predicted { IsPredicted league.now schedule.now scope.now.attempt.exchange.now predicted }
     ensures rest { MatchOption result
         (scope.now.attempt.most < score_by scope.now.attempt.weight (cost_of league.now (exchanged_by schedule.now scope.now.attempt.exchange.now)))
         (λ rest. IsRest league.now scope.now (exchanged_by schedule.now scope.now.attempt.exchange.now) rest) }
-    ensures counts { AreCounts league.now.rules schedule.now counts.new }
-    ensures same { IsKeptOf counts.new counts.old }
-    ensures rests { counts.new.is_known ≡ true → AreRests league.now.rules scope.now scope.now.rules schedule.now counts.new.next }
+    ensures deviations { AreKeptDeviations league.now.rules schedule.now deviations.new }
+    ensures same { IsKeptOf deviations.new deviations.old }
+    ensures rests { deviations.new.is_known ≡ true → AreRests league.now.rules scope.now scope.now.rules schedule.now deviations.new.next }
 {
     prove_eq!(league.teams(), schedule.teams());
-    let rest = rest_of(schedule, league, counts, scope, told);
+    let rest = rest_of(schedule, league, deviations, scope, predicted);
     let score = rest.score_by(scope.attempt.weight);
     let most = scope.attempt.most;
-    if score > most || !leaves_room(schedule, league, &mut counts.gaps, scope, most - score) {
+    if score > most || !leaves_room(schedule, league, &mut deviations.gaps, scope, most - score) {
         return None;
     }
     Some(rest)
@@ -86,19 +86,19 @@ pub(crate) fn rest_within(
 pub(crate) fn whole_within(
     schedule: &Schedule,
     league: &League,
-    counts: &mut Counts,
+    deviations: &mut KeptDeviations,
     scope: &Scope<'_>,
     rest: Cost,
 ) -> Option<Cost>
     requires same_size { teams league.now ≡ schedule.now.teams }
     requires rules { KnowsRules league.now scope.now }
     requires rest { IsRest league.now scope.now schedule.now rest }
-    requires next_length { length counts.old.next ≡ max_rules }
-    requires rests { counts.old.is_known ≡ true → AreRests league.now.rules scope.now scope.now.rules schedule.now counts.old.next }
+    requires next_length { length deviations.old.next ≡ max_rules }
+    requires rests { deviations.old.is_known ≡ true → AreRests league.now.rules scope.now scope.now.rules schedule.now deviations.old.next }
     ensures cost { IsCostWithin league.now scope.now.attempt.weight scope.now.attempt.most schedule.now result }
-    ensures same { IsKeptOf counts.new counts.old }
-    ensures next_length { length counts.new.next ≡ max_rules }
-    ensures all { IfSome result (λ _. counts.new.is_known ≡ true → AreRests league.now.rules scope.now 0 schedule.now counts.new.next) }
+    ensures same { IsKeptOf deviations.new deviations.old }
+    ensures next_length { length deviations.new.next ≡ max_rules }
+    ensures all { IfSome result (λ _. deviations.new.is_known ≡ true → AreRests league.now.rules scope.now 0 schedule.now deviations.new.next) }
 {
     prove_eq!(league.teams(), schedule.teams());
     let (weight, most) = (scope.attempt.weight, scope.attempt.most);
@@ -111,8 +111,14 @@ pub(crate) fn whole_within(
             return None;
         }
         let rule = league.rule(i);
-        let part = deviation_part(schedule, rule, scope.main, scope.turning, &mut counts.gaps);
-        counts.next[i] = counts.next[i].saturating_add(part as u32);
+        let part = deviation_part(
+            schedule,
+            rule,
+            scope.main,
+            scope.turning,
+            &mut deviations.gaps,
+        );
+        deviations.next[i] = deviations.next[i].saturating_add(part as u32);
         let added = Penalties::of_rule(rule.weight, part);
         cost.hard += added.hard;
         cost.soft += added.soft;

@@ -3,7 +3,7 @@
 ghost use Rattle.std.specs.Prelude.{◌≡◌, length, Some, None};
 ghost use Rattle.costs.specs.Evaluators.{is_fairness, last_fairness, IsEvaluatorOf};
 
-use crate::counts::Counts;
+use crate::kept_deviations::KeptDeviations;
 use league::{League, Rule, RuleBody};
 use rule_index::RuleIndex;
 use std::marker::Model;
@@ -16,7 +16,7 @@ pub struct Evaluator {
     pub(crate) index: RuleIndex,
     /// The last rule of class FA2.
     pub(crate) fairness: Option<usize>,
-    pub(crate) counts: Counts,
+    pub(crate) deviations: KeptDeviations,
 }
 
 impl Model for Evaluator {
@@ -29,10 +29,10 @@ impl Model for Evaluator {
     ghost view = { λ e. record {
       index = e.index;
       fairness = e.fairness;
-      deviations = if_known e.counts.is_known e.counts.kept;
+      deviations = if_known e.deviations.is_known e.deviations.kept;
     } };
 
-    ghost invariant = { λ e. (length e.counts.kept ≡ max_rules) × (length e.counts.next ≡ max_rules) };
+    ghost invariant = { λ e. (length e.deviations.kept ≡ max_rules) × (length e.deviations.next ≡ max_rules) };
 }
 
 impl Evaluator {
@@ -44,7 +44,7 @@ impl Evaluator {
         Evaluator {
             index: RuleIndex::new(league),
             fairness: last_fairness(league),
-            counts: Counts::new(),
+            deviations: KeptDeviations::new(),
         }
     }
 
@@ -55,7 +55,7 @@ impl Evaluator {
         Evaluator {
             index: self.index,
             fairness: self.fairness,
-            counts: Counts::new(),
+            deviations: KeptDeviations::new(),
         }
     }
 
@@ -63,7 +63,7 @@ impl Evaluator {
     pub fn forget(&mut self)
         ensures { self.new ≡ record self.old { deviations = None } }
     {
-        self.counts.forget();
+        self.deviations.forget();
     }
 }
 

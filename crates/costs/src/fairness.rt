@@ -10,7 +10,7 @@ use fixtures::Schedule;
 use league::{League, Rule, RuleBody, Weight};
 use robinx::{Fairness, KeptGaps, touches, turned_within};
 
-/// Whether what the exchange can alter of that is at most what is left for it. Nothing is made for that. No others of that class are told,
+/// Whether what the exchange can alter of that is at most what is left for it. Nothing is made for that. No others of that class are predicted,
 /// since the table of the last one's gaps is the one that was counted last.
 pub(crate) fn leaves_room(
     schedule: &Schedule,

@@ -6,15 +6,15 @@
 
 mod attempt;
 mod cost;
+mod cost_delta;
 mod counted;
-mod counts;
 mod evaluator;
 mod fairness;
+mod kept_deviations;
 mod made_exchanges;
 mod penalties;
 mod rule_costs;
 mod scope;
-mod told_cost;
 mod whole_cost;
 
 pub use attempt::Attempt;

@@ -8,10 +8,10 @@ ghost use Rattle.costs.specs.Evaluators.{IsEvaluatorAt};
 
 use crate::attempt::Attempt;
 use crate::cost::Cost;
+use crate::cost_delta::predicted_within;
 use crate::counted::{rest_within, whole_within};
 use crate::evaluator::Evaluator;
 use crate::scope::Scope;
-use crate::told_cost::told_within;
 use fixtures::{Exchange, Schedule};
 use league::League;
 
@@ -69,25 +69,25 @@ pub fn make_within(
     ensures evaluator { IsEvaluatorAt league.now schedule.new evaluator.new }
 {
     prove_eq!(league.teams(), schedule.teams());
-    let told = told_within(schedule, league, attempt)?;
+    let predicted = predicted_within(schedule, league, attempt)?;
     let exchange = attempt.exchange;
     if league.rule_count() == 0 && !league.phased() {
-        if told.score_by(attempt.weight) > attempt.most {
+        if predicted.score_by(attempt.weight) > attempt.most {
             return None;
         }
         exchange.make(schedule);
-        return Some(told);
+        return Some(predicted);
     }
     let scope = Scope::of(attempt, schedule, evaluator);
-    let counts = &mut evaluator.counts;
-    counts.learn(schedule, league);
-    let rest = rest_within(schedule, league, counts, &scope, told)?;
+    let deviations = &mut evaluator.deviations;
+    deviations.learn(schedule, league);
+    let rest = rest_within(schedule, league, deviations, &scope, predicted)?;
     exchange.make(schedule);
-    let cost = whole_within(schedule, league, counts, &scope, rest);
+    let cost = whole_within(schedule, league, deviations, &scope, rest);
     if cost.is_none() {
         exchange.make(schedule);
     } else {
-        counts.keep(scope.rules);
+        deviations.keep(scope.rules);
     }
     cost
 }

@@ -5,9 +5,9 @@ ghost use Rattle.league.specs.League.{teams};
 ghost use Rattle.league.specs.Limits.{deviation_limit, max_rules, max_weight};
 ghost use Rattle.costs.specs.Costs.{hard_penalty, soft_penalty, sum_over_rules};
 ghost use Rattle.costs.specs.within.CostParts.{rules_part, KnowsRules};
-ghost use Rattle.costs.specs.within.CountsKept.{AreCounts, AreRests, IsKeptOf};
+ghost use Rattle.costs.specs.within.KeptDeviations.{AreKeptDeviations, AreRests, IsKeptOf};
 
-use crate::counts::Counts;
+use crate::kept_deviations::KeptDeviations;
 use crate::penalties::Penalties;
 use crate::scope::Scope;
 use fixtures::Schedule;
@@ -34,30 +34,30 @@ pub(crate) fn costs_of_rules(schedule: &Schedule, league: &League) -> Penalties
 }
 
 /// The part of these that the exchange of the scope can alter. None is counted of a rule that is known not to be broken. Each rule's deviation without
-/// the part goes into the counts.
+/// the part goes into the deviations.
 pub(crate) fn parts_of_rules(
     schedule: &Schedule,
     league: &League,
-    counts: &mut Counts,
+    deviations: &mut KeptDeviations,
     scope: &Scope<'_>,
 ) -> Penalties
     requires same_size { teams league.now ≡ schedule.now.teams }
     requires rules { KnowsRules league.now scope.now }
-    requires counts { AreCounts league.now.rules schedule.now counts.old }
+    requires deviations { AreKeptDeviations league.now.rules schedule.now deviations.old }
     ensures hard { result.hard ≡ rules_part hard_penalty league.now.rules scope.now.main scope.now.turning schedule.now }
     ensures soft { result.soft ≡ rules_part soft_penalty league.now.rules scope.now.main scope.now.turning schedule.now }
     ensures hard_most { result.hard ≤ max_rules * deviation_limit }
     ensures soft_most { result.soft ≤ max_rules * (max_weight * deviation_limit) }
-    ensures counts { AreCounts league.now.rules schedule.now counts.new }
-    ensures same { IsKeptOf counts.new counts.old }
-    ensures rests { counts.new.is_known ≡ true → AreRests league.now.rules scope.now scope.now.rules schedule.now counts.new.next }
+    ensures deviations { AreKeptDeviations league.now.rules schedule.now deviations.new }
+    ensures same { IsKeptOf deviations.new deviations.old }
+    ensures rests { deviations.new.is_known ≡ true → AreRests league.now.rules scope.now scope.now.rules schedule.now deviations.new.next }
 {
     prove_eq!(league.teams(), schedule.teams());
     let mut costs = Penalties { hard: 0, soft: 0 };
     for i in scope.rules {
         let rule = league.rule(i);
-        let part = counts.part_before(schedule, rule, i, scope);
-        counts.next[i] = counts.kept[i].saturating_sub(part as u32);
+        let part = deviations.part_before(schedule, rule, i, scope);
+        deviations.next[i] = deviations.kept[i].saturating_sub(part as u32);
         let added = Penalties::of_rule(rule.weight, part);
         costs.hard += added.hard;
         costs.soft += added.soft;

@@ -11,7 +11,7 @@ use crate::evaluator::Evaluator;
 use fixtures::{Schedule, Touched};
 use league::{RuleSet, TeamSet};
 
-/// An attempt and what its exchange can change of such a cost, told once on the schedule before it.
+/// An attempt and what its exchange can change of such a cost, predicted once on the schedule before it.
 #[derive(Clone, Copy)]
 pub(crate) struct Scope<'a> {
     pub(crate) attempt: Attempt<'a>,

@@ -13,7 +13,7 @@ use Rattle.schedule_tables.specs.Head.{without_order_mark}
 use Rattle.distance_tables.specs.declared.fault.DistanceFault.{DistanceFault}
 use Rattle.distance_tables.specs.declared.fault.DistanceFault.TheVariants.{TeamCount}
 use Rattle.distance_tables.specs.declared.sides.Symmetry.{Symmetry}
-use Rattle.distance_tables.specs.League.{agreed, AreTerms, distances_for, league_for, table_for}
+use Rattle.distance_tables.specs.League.{agreed, AreSettings, distances_for, league_for, table_for}
 use Rattle.distance_tables.specs.LeagueText.{Said, league_text}
 use Rattle.distance_tables.specs.Names.{names_of}
 use Rattle.distance_tables.specs.Reading.{unless}
@@ -22,7 +22,7 @@ use Rattle.distance_tables.specs.Table.{TableData, has_names, separator_of, tabl
 use Rattle.distance_tables.proofs.Behind.{bound, refused}
 use Rattle.distance_tables.proofs.Facts.{AreNames, AreRows, all_named, rows_are_read}
 use Rattle.distance_tables.proofs.Leagues.{league_is, value_is}
-use Rattle.distance_tables.proofs.ReadBack.{AreSmallTerms, read_whole}
+use Rattle.distance_tables.proofs.ReadBack.{AreSmallSettings, read_whole}
 use Rattle.distance_tables.proofs.Sound.{small, sound}
 use Rattle.distance_tables.proofs.Utf8.{text_utf8}
 
@@ -78,14 +78,14 @@ names_pass [] are = refl
 names_pass (name ∷ names) are = and_from (is_team_name name) (list_all is_team_name names) are.0 (names_pass names are.2)
 
 small_terms : (title : Option (List ℕ)) (at_most hard_weight : Option ℕ)
-    → AreTerms (record { title = title; at_most = at_most; hard_weight = hard_weight })
-    → AreSmallTerms (record { title = title; at_most = at_most; hard_weight = hard_weight })
+    → AreSettings (record { title = title; at_most = at_most; hard_weight = hard_weight })
+    → AreSmallSettings (record { title = title; at_most = at_most; hard_weight = hard_weight })
 small_terms title None None are = (tt, tt)
 small_terms title (Some n) None are = (omega (arith, are.at_most.1), tt)
 small_terms title None (Some w) are = (tt, omega (arith, are.hard_weight.1))
 small_terms title (Some n) (Some w) are = (omega (arith, are.at_most.1), omega (arith, are.hard_weight.1))
 
-pub reads : (choice : Option Symmetry) (said : Said) (text : List ℕ) (table : TableData) → AreTerms said → IfSome said.title IsUtf8
+pub reads : (choice : Option Symmetry) (said : Said) (text : List ℕ) (table : TableData) → AreSettings said → IfSome said.title IsUtf8
     → table_for choice text ≡ Ok table
     → league_of (league_text table.names (distances_for choice table) said) ≡ Ok (league_for choice said table)
 unfolding league_of

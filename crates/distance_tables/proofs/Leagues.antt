@@ -13,7 +13,7 @@ use Rattle.league.specs.LeagueMembers.{is_team_name}
 use Rattle.league.specs.Limits.{default_at_most, default_hard_weight, max_rounds, max_weight}
 use Rattle.league.specs.declared.origins.Start.TheVariants.{Berger}
 use Rattle.league.specs.Origins.{origin_at}
-use Rattle.distance_tables.specs.League.{AreTerms}
+use Rattle.distance_tables.specs.League.{AreSettings}
 use Rattle.distance_tables.proofs.Lexed.{RowsAreSmall}
 use Rattle.distance_tables.proofs.ReadBack.{whole}
 use Rattle.distance_tables.proofs.Values.{name_data, row_data, names_are, rows_are, names_read, rows_read}
@@ -55,24 +55,24 @@ module _ (names distances : List (List ℕ)) where
   within n most least limit = and_from (nat_le 1 n) (nat_le n most) (le-leb 1 n least) (le-leb n most limit)
 
   pub league_is : (title : Option (List ℕ)) (at_most hard_weight : Option ℕ)
-      → AreTerms (record { title = title; at_most = at_most; hard_weight = hard_weight })
+      → AreSettings (record { title = title; at_most = at_most; hard_weight = hard_weight })
       → list_all is_team_name names ≡ true → checked (length names) distances 0 ≡ Ok tt
       → league_of_data (league_value names distances title at_most hard_weight)
       ≡ Ok (league_data names distances (unwrap_or at_most default_at_most) (unwrap_or hard_weight default_hard_weight) [] (origin_at Berger) false false (label_data title [] []))
   unfolding league_of_data labels_of
-  league_is None None None terms named sound =
+  league_is None None None settings named sound =
       rw (names_read names named, rows_read distances, sound) refl
-  league_is None (Some n) None terms named sound =
-      rw (names_read names named, rows_read distances, sound, within n max_rounds terms.at_most.0 terms.at_most.1) refl
-  league_is None None (Some w) terms named sound =
-      rw (names_read names named, rows_read distances, sound, within w max_weight terms.hard_weight.0 terms.hard_weight.1) refl
-  league_is None (Some n) (Some w) terms named sound =
-      rw (names_read names named, rows_read distances, sound, within n max_rounds terms.at_most.0 terms.at_most.1, within w max_weight terms.hard_weight.0 terms.hard_weight.1) refl
-  league_is (Some title) None None terms named sound =
-      rw (names_read names named, rows_read distances, sound, terms.title) refl
-  league_is (Some title) (Some n) None terms named sound =
-      rw (names_read names named, rows_read distances, sound, terms.title, within n max_rounds terms.at_most.0 terms.at_most.1) refl
-  league_is (Some title) None (Some w) terms named sound =
-      rw (names_read names named, rows_read distances, sound, terms.title, within w max_weight terms.hard_weight.0 terms.hard_weight.1) refl
-  league_is (Some title) (Some n) (Some w) terms named sound =
-      rw (names_read names named, rows_read distances, sound, terms.title, within n max_rounds terms.at_most.0 terms.at_most.1, within w max_weight terms.hard_weight.0 terms.hard_weight.1) refl
+  league_is None (Some n) None settings named sound =
+      rw (names_read names named, rows_read distances, sound, within n max_rounds settings.at_most.0 settings.at_most.1) refl
+  league_is None None (Some w) settings named sound =
+      rw (names_read names named, rows_read distances, sound, within w max_weight settings.hard_weight.0 settings.hard_weight.1) refl
+  league_is None (Some n) (Some w) settings named sound =
+      rw (names_read names named, rows_read distances, sound, within n max_rounds settings.at_most.0 settings.at_most.1, within w max_weight settings.hard_weight.0 settings.hard_weight.1) refl
+  league_is (Some title) None None settings named sound =
+      rw (names_read names named, rows_read distances, sound, settings.title) refl
+  league_is (Some title) (Some n) None settings named sound =
+      rw (names_read names named, rows_read distances, sound, settings.title, within n max_rounds settings.at_most.0 settings.at_most.1) refl
+  league_is (Some title) None (Some w) settings named sound =
+      rw (names_read names named, rows_read distances, sound, settings.title, within w max_weight settings.hard_weight.0 settings.hard_weight.1) refl
+  league_is (Some title) (Some n) (Some w) settings named sound =
+      rw (names_read names named, rows_read distances, sound, settings.title, within n max_rounds settings.at_most.0 settings.at_most.1, within w max_weight settings.hard_weight.0 settings.hard_weight.1) refl

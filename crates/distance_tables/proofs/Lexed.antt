@@ -9,7 +9,7 @@ use Rattle.json.proofs.OnLiterals.{json_on_literals}
 use Rattle.json.proofs.Printed.Decimals.{IsNumber-decimal}
 use Rattle.json.proofs.Printed.Numbers.{lex-number}
 use Rattle.json.proofs.Printed.Strings.{content-escape, lex-escape}
-use Rattle.distance_tables.specs.LeagueText.{names_text, numbers_text, row_text, rows_text, term_text, title_text}
+use Rattle.distance_tables.specs.LeagueText.{names_text, numbers_text, row_text, rows_text, setting_text, title_text}
 
 -- each number fits 64 bits
 abbrev pub AreSmall : List ℕ → Type 0
@@ -120,18 +120,18 @@ unfolding json_on_literals
 lex_title None rest = refl
 lex_title (Some title) rest = ap (λ ls. comma ∷ name_lexeme (codes "name") ∷ colon ∷ ls) (lex_quoted title rest)
 
-abbrev pub term_lexemes : List ℕ → Option ℕ → List Lexeme
-term_lexemes name None = []
-term_lexemes name (Some n) = comma ∷ name_lexeme name ∷ colon ∷ number_lexeme n ∷ []
+abbrev pub setting_lexemes : List ℕ → Option ℕ → List Lexeme
+setting_lexemes name None = []
+setting_lexemes name (Some n) = comma ∷ name_lexeme name ∷ colon ∷ number_lexeme n ∷ []
 
 pub lex_at_most : (at_most : Option ℕ) (rest : List ℕ) → IfSome at_most (λ n. n < 2 ^ 64) → ends_word rest ≡ true
-    → lex between (term_text (codes ",\n  \"at_most\": ") at_most ++ rest) ≡ term_lexemes (codes "at_most") at_most ++ lex between rest
+    → lex between (setting_text (codes ",\n  \"at_most\": ") at_most ++ rest) ≡ setting_lexemes (codes "at_most") at_most ++ lex between rest
 unfolding json_on_literals
 lex_at_most None rest small ended = refl
 lex_at_most (Some n) rest small ended = ap (λ ls. comma ∷ name_lexeme (codes "at_most") ∷ colon ∷ ls) (lex_decimal n rest small ended)
 
 pub lex_hard_weight : (hard_weight : Option ℕ) (rest : List ℕ) → IfSome hard_weight (λ n. n < 2 ^ 64) → ends_word rest ≡ true
-    → lex between (term_text (codes ",\n  \"hard_weight\": ") hard_weight ++ rest) ≡ term_lexemes (codes "hard_weight") hard_weight ++ lex between rest
+    → lex between (setting_text (codes ",\n  \"hard_weight\": ") hard_weight ++ rest) ≡ setting_lexemes (codes "hard_weight") hard_weight ++ lex between rest
 unfolding json_on_literals
 lex_hard_weight None rest small ended = refl
 lex_hard_weight (Some n) rest small ended = ap (λ ls. comma ∷ name_lexeme (codes "hard_weight") ∷ colon ∷ ls) (lex_decimal n rest small ended)

@@ -4,10 +4,10 @@ use Rattle.std.proofs.lemmas.Fmt.{IsAscii-decimal}
 use Rattle.std.proofs.lemmas.Str.{IsUtf8-append, IsUtf8-nil, IsUtf8-from_ascii, IsUtf8-from_is_utf8}
 use Rattle.json.specs.Print.{quoted}
 use Rattle.json.proofs.Printed.Utf8.{IsUtf8-quoted, IsUtf8-are_ascii}
-use Rattle.distance_tables.specs.LeagueText.{Said, names_text, numbers_text, row_text, rows_text, term_text, title_text, league_text}
+use Rattle.distance_tables.specs.LeagueText.{Said, names_text, numbers_text, row_text, rows_text, setting_text, title_text, league_text}
 use Rattle.distance_tables.proofs.Facts.{AreNames}
 use Rattle.distance_tables.proofs.Lexed.{AreSmall, RowsAreSmall}
-use Rattle.distance_tables.proofs.ReadBack.{AreSmallTerms}
+use Rattle.distance_tables.proofs.ReadBack.{AreSmallSettings}
 
 decimal_utf8 : (n : ℕ) → n < 2 ^ 64 → IsUtf8 (decimal n)
 decimal_utf8 n small = IsUtf8-from_ascii (decimal n) (IsAscii-decimal n small)
@@ -39,15 +39,15 @@ rows_utf8 true (row ∷ rows) small =
     (IsUtf8-append (row_text row) (rows_text true rows) (row_utf8 row small.0) (rows_utf8 true rows small.1))
 rows_utf8 false (row ∷ rows) small = IsUtf8-append (row_text row) (rows_text true rows) (row_utf8 row small.0) (rows_utf8 true rows small.1)
 
-term_utf8 : (name : List ℕ) (term : Option ℕ) → IsUtf8 name → IfSome term (λ n. n < 2 ^ 64) → IsUtf8 (term_text name term)
-term_utf8 name None ascii small = IsUtf8-nil
-term_utf8 name (Some n) ascii small = IsUtf8-append name (decimal n) ascii (decimal_utf8 n small)
+setting_utf8 : (name : List ℕ) (term : Option ℕ) → IsUtf8 name → IfSome term (λ n. n < 2 ^ 64) → IsUtf8 (setting_text name term)
+setting_utf8 name None ascii small = IsUtf8-nil
+setting_utf8 name (Some n) ascii small = IsUtf8-append name (decimal n) ascii (decimal_utf8 n small)
 
 title_utf8 : (title : Option (List ℕ)) → IfSome title IsUtf8 → IsUtf8 (title_text title)
 title_utf8 None utf8 = IsUtf8-nil
 title_utf8 (Some title) utf8 = IsUtf8-append (codes ",\n  \"name\": ") (quoted title) (IsUtf8-are_ascii _ refl) (IsUtf8-quoted title utf8)
 
-pub text_utf8 : (names distances : List (List ℕ)) (said : Said) → AreNames names → RowsAreSmall distances → AreSmallTerms said
+pub text_utf8 : (names distances : List (List ℕ)) (said : Said) → AreNames names → RowsAreSmall distances → AreSmallSettings said
     → IfSome said.title IsUtf8 → IsUtf8 (league_text names distances said)
 unfolding league_text
 text_utf8 names distances said are small small_terms titled =
@@ -55,6 +55,6 @@ text_utf8 names distances said are small small_terms titled =
     (IsUtf8-append _ _ (IsUtf8-are_ascii (codes ",\n  \"teams\": [") refl) (IsUtf8-append _ _ (names_utf8 false names are)
     (IsUtf8-append _ _ (IsUtf8-are_ascii (codes "],\n  \"distances\": [") refl) (IsUtf8-append _ _ (rows_utf8 false distances small)
     (IsUtf8-append _ _ (IsUtf8-are_ascii (codes "\n  ]") refl)
-    (IsUtf8-append _ _ (term_utf8 (codes ",\n  \"at_most\": ") said.at_most (IsUtf8-are_ascii _ refl) small_terms.0)
-    (IsUtf8-append _ _ (term_utf8 (codes ",\n  \"hard_weight\": ") said.hard_weight (IsUtf8-are_ascii _ refl) small_terms.1)
+    (IsUtf8-append _ _ (setting_utf8 (codes ",\n  \"at_most\": ") said.at_most (IsUtf8-are_ascii _ refl) small_terms.0)
+    (IsUtf8-append _ _ (setting_utf8 (codes ",\n  \"hard_weight\": ") said.hard_weight (IsUtf8-are_ascii _ refl) small_terms.1)
     (IsUtf8-are_ascii (codes "\n}\n") refl)))))))))

@@ -17,7 +17,7 @@ use Rattle.distance_tables.specs.Sides.{first_asymmetry, leveled}
 use Rattle.distance_tables.specs.Table.{TableData, table_of}
 
 -- what a league may say
-pub record AreTerms (said : Said) : Type 0 where
+pub record AreSettings (said : Said) : Type 0 where
   pub title : IsTrue (is_title said.title)
   pub at_most : IfSome said.at_most (λ n. (1 ≤ n) × (n ≤ max_rounds))
   pub hard_weight : IfSome said.hard_weight (λ w. (1 ≤ w) × (w ≤ max_weight))

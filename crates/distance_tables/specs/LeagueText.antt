@@ -2,7 +2,7 @@
 use Rattle.std.specs.Prelude.{ℕ, List, [], ◌∷◌, ◌++◌, map, codes, decimal, Bool, true, false, Option, Some, None, option_map, if◌then◌else◌}
 use Rattle.std.specs.List.{concat}
 use Rattle.json.specs.Print.{quoted}
-use Rattle.distance_tables.specs.declared.league_text.Terms.{Terms}
+use Rattle.distance_tables.specs.declared.league_text.Settings.{Settings}
 
 -- what a league says beside its teams and distances
 pub record Said : Type 0 where
@@ -10,8 +10,8 @@ pub record Said : Type 0 where
   pub at_most : Option ℕ
   pub hard_weight : Option ℕ
 
-abbrev pub said_by : Terms → Said
-said_by terms = record { title = option_map (λ title. title.now) terms.title; at_most = terms.at_most; hard_weight = terms.hard_weight }
+abbrev pub said_by : Settings → Said
+said_by settings = record { title = option_map (λ title. title.now) settings.title; at_most = settings.at_most; hard_weight = settings.hard_weight }
 
 -- texts, with another between each and the next, and before the first if something stands before it
 abbrev pub listed : List ℕ → Bool → List (List ℕ) → List ℕ
@@ -35,13 +35,13 @@ abbrev pub title_text : Option (List ℕ) → List ℕ
 title_text None = []
 title_text (Some title) = codes ",\n  \"name\": " ++ quoted title
 
-abbrev pub term_text : List ℕ → Option ℕ → List ℕ
-term_text name None = []
-term_text name (Some number) = name ++ decimal number
+abbrev pub setting_text : List ℕ → Option ℕ → List ℕ
+setting_text name None = []
+setting_text name (Some number) = name ++ decimal number
 
 unfoldable pub league_text : List (List ℕ) → List (List ℕ) → Said → List ℕ
 league_text names distances said = concat (
     codes "{\n  \"format\": 3" ∷ title_text said.title ∷ codes ",\n  \"teams\": [" ∷ names_text false names ∷
     codes "],\n  \"distances\": [" ∷ rows_text false distances ∷ codes "\n  ]" ∷
-    term_text (codes ",\n  \"at_most\": ") said.at_most ∷
-    term_text (codes ",\n  \"hard_weight\": ") said.hard_weight ∷ codes "\n}\n" ∷ [])
+    setting_text (codes ",\n  \"at_most\": ") said.at_most ∷
+    setting_text (codes ",\n  \"hard_weight\": ") said.hard_weight ∷ codes "\n}\n" ∷ [])

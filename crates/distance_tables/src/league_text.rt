@@ -5,7 +5,7 @@ ghost use Rattle.std.specs.Str.{IsUtf8};
 ghost use Rattle.json.specs.Print.{quoted};
 ghost use Rattle.league.specs.Labels.{is_title};
 ghost use Rattle.league.specs.Views.{texts};
-ghost use Rattle.distance_tables.specs.LeagueText.{league_text, names_text, numbers_text, row_text, rows_text, said_by, term_text, title_text};
+ghost use Rattle.distance_tables.specs.LeagueText.{league_text, names_text, numbers_text, row_text, rows_text, said_by, setting_text, title_text};
 ghost use Rattle.distance_tables.specs.within.Views.{number_rows};
 
 use crate::names::has_name_bytes;
@@ -15,7 +15,7 @@ use std::alloc::{AllocError, Global};
 
 /// The settings of a league beside its teams and distances, if anything is to be said.
 #[derive(Clone, Copy, Debug, Default, PartialEq, Eq)]
-pub struct Terms<'a> {
+pub struct Settings<'a> {
     /// The name of the league, as [`is_title`] has it.
     pub title: Option<&'a str>,
     /// How many rounds in a row a team may play at home, or away: 1 to 78.
@@ -37,21 +37,21 @@ pub(crate) fn league_text(
     alloc: Global,
     names: &[String],
     distances: &[Vec<u64>],
-    terms: Terms<'_>,
+    settings: Settings<'_>,
 ) -> Result<Vec<u8>, AllocError>
-    ensures text { IfOk result (λ text. text.items ≡ league_text (texts names.now) (number_rows distances.now) (said_by terms.entry)) }
-    ensures utf8 { IfOk result (λ _. IfSome (said_by terms.entry).title IsUtf8) }
+    ensures text { IfOk result (λ text. text.items ≡ league_text (texts names.now) (number_rows distances.now) (said_by settings.entry)) }
+    ensures utf8 { IfOk result (λ _. IfSome (said_by settings.entry).title IsUtf8) }
 {
     let mut text = Vec::new(alloc);
     text.extend_from_slice(b"{\n  \"format\": 3")?;
-    push_title(alloc, &mut text, terms.title)?;
+    push_title(alloc, &mut text, settings.title)?;
     text.extend_from_slice(b",\n  \"teams\": [")?;
     push_names(alloc, &mut text, names)?;
     text.extend_from_slice(b"],\n  \"distances\": [")?;
     push_rows(&mut text, distances)?;
     text.extend_from_slice(b"\n  ]")?;
-    push_term(&mut text, b",\n  \"at_most\": ", terms.at_most)?;
-    push_term(&mut text, b",\n  \"hard_weight\": ", terms.hard_weight)?;
+    push_setting(&mut text, b",\n  \"at_most\": ", settings.at_most)?;
+    push_setting(&mut text, b",\n  \"hard_weight\": ", settings.hard_weight)?;
     text.extend_from_slice(b"\n}\n")?;
     Ok(text)
 }
@@ -141,8 +141,8 @@ fn push_number(text: &mut Vec<u8>, number: u64) -> Result<(), AllocError>
 }
 
 /// Adds a member that may be absent.
-fn push_term(text: &mut Vec<u8>, name: &[u8], number: Option<u64>) -> Result<(), AllocError>
-    ensures { OnOk result (text.new.items ≡ text.old.items ++ term_text name.now number) }
+fn push_setting(text: &mut Vec<u8>, name: &[u8], number: Option<u64>) -> Result<(), AllocError>
+    ensures { OnOk result (text.new.items ≡ text.old.items ++ setting_text name.now number) }
 {
     if let Some(number) = number {
         text.extend_from_slice(name)?;

@@ -5,7 +5,7 @@ ghost use Rattle.std.specs.Str.Lines.{lines};
 ghost use Rattle.league.specs.Checks.{is_team_count};
 ghost use Rattle.league.specs.Views.{texts};
 ghost use Rattle.schedule_tables.specs.Cells.{cells};
-ghost use Rattle.distance_tables.specs.League.{agreed, AreTerms, GivesLeague, rounded_in, rounded_in_row};
+ghost use Rattle.distance_tables.specs.League.{agreed, AreSettings, GivesLeague, rounded_in, rounded_in_row};
 ghost use Rattle.distance_tables.specs.LeagueText.{said_by};
 ghost use Rattle.distance_tables.specs.within.Reading.{Gives};
 ghost use Rattle.distance_tables.specs.Table.{begins_with_name, has_names, parts_cells, separator_of, table_below, table_of};
@@ -13,7 +13,7 @@ ghost use Rattle.distance_tables.specs.within.Table.{table_view};
 ghost use Rattle.distance_tables.specs.within.Views.{rows};
 
 use crate::fault::DistanceFault;
-use crate::league_text::{Terms, league_text};
+use crate::league_text::{Settings, league_text};
 use crate::measures::{Measure, own_measure};
 use crate::names::{name_count, team_names};
 use crate::rows::{Head, rows_below};
@@ -197,16 +197,16 @@ pub fn league_from_table(
     alloc: Global,
     text: &[u8],
     choice: Option<Symmetry>,
-    terms: Terms<'_>,
+    settings: Settings<'_>,
 ) -> Result<MadeLeague, DistanceFault>
-    requires { AreTerms (said_by terms) }
-    ensures { GivesLeague choice (said_by terms.entry) text.now result }
+    requires { AreSettings (said_by settings) }
+    ensures { GivesLeague choice (said_by settings.entry) text.now result }
 {
     let table = table_of(alloc, text)?;
     let teams = name_count(&table.names) as u8;
     agreed(choice, teams, &table.rows)?;
     let distances = leveled(alloc, choice, teams, &table.rows)?;
-    let text = league_text(alloc, &table.names, &distances, terms)?;
+    let text = league_text(alloc, &table.names, &distances, settings)?;
     Ok(MadeLeague {
         text,
         rounded: rounded_in(&table.rows),

@@ -23,7 +23,7 @@ use Rattle.fixture_board.specs.History.{effect, effective, shifted, games_after,
 use Rattle.fixture_board.specs.History.{is_there, AllStand, Fits, May, IsLegal, max_room, cost_at, better}
 use Rattle.fixture_board.specs.History.{best_prefix, best_at, as_best, best_of}
 use Rattle.fixture_board.specs.within.PinTable.{free, pin_entries, taken_back, ArePinsAt, IsFirstTable}
-use Rattle.fixture_board.specs.within.Kept.{IsLeader, Kept, FollowsHistory, IsGranted, entered, CanTakeBack, leads, led_by}
+use Rattle.fixture_board.specs.within.Kept.{IsLeader, Kept, FollowsHistory, IsGranted, entered, CanTakeBack, is_improved_by, improved_by}
 use Rattle.fixture_board.specs.Laws.{IsSound}
 use Rattle.fixture_board.specs.Replies.{change_of, refusal, entry}
 use Rattle.fixture_board.proofs.OneMore.{effective-none, effective-more, games_of-none, pins_of-none, games_of-by}
@@ -60,7 +60,7 @@ IsLeader-other league q p g best_g at false at_is g_is best_is = (refl, best_is)
 IsLeader-more : (league : LeagueData) (found : Option (List Entry)) (p : List Entry) (best : Option Best) (g best_g : Games)
     (cost : Cost) (at : ℕ) →
     IsLeader league found best best_g → cost ≡ cost_at league p → at ≡ length p → g ≡ games_of league p →
-    IsLeader league (better league found p) (led_by best cost at) (if leads best cost then g else best_g)
+    IsLeader league (better league found p) (improved_by best cost at) (if is_improved_by best cost then g else best_g)
 IsLeader-more league None p best g best_g cost at leader cost_is at_is g_is =
     rw (leader, cost_is) (IsLeader-first league p g best_g at ((cost_at league p).hard == 0) at_is g_is)
 IsLeader-more league (Some q) p best g best_g cost at leader cost_is at_is g_is =
@@ -105,8 +105,8 @@ FollowsHistory-more {league} {k} e changes g pins cost kept under may changes_ar
       pins_are = pins_are;
       cost_is = cost_here;
       small = rw cost_is (score_below league g kept.league_is same);
-      leader = subst (λ found. IsLeader league found (led_by k.best cost (length k.history + 1))
-          (if leads k.best cost then g else k.best_games))
+      leader = subst (λ found. IsLeader league found (improved_by k.best cost (length k.history + 1))
+          (if is_improved_by k.best cost then g else k.best_games))
           (sym (best_prefix-more league k.history e))
           (IsLeader-more league (best_prefix league k.history) h k.best g k.best_games cost (length k.history + 1) kept.leader cost_here
           (sym (length-more k.history e)) games_are);
@@ -324,8 +324,8 @@ pub FollowsHistory-start : (league : LeagueData) (room : ℕ) (cost : Cost) (pin
       games = start_of league;
       pins = pins;
       cost = cost;
-      best = led_by None cost 0;
-      best_games = if leads None cost then start_of league else best_g;
+      best = improved_by None cost 0;
+      best_games = if is_improved_by None cost then start_of league else best_g;
     })
 unfolding cost_at
 FollowsHistory-start league room cost pins best_g is most cost_is first =
@@ -344,7 +344,7 @@ FollowsHistory-start league room cost pins best_g is most cost_is first =
       pins_are = subst (λ q. ArePinsAt (start_of league) q pins) (sym (pins_of-none league)) first.are;
       cost_is = cost_here;
       small = rw cost_is (score_below league (start_of league) is refl);
-      leader = subst (λ found. IsLeader league found (led_by None cost 0) (if leads None cost then start_of league else best_g))
+      leader = subst (λ found. IsLeader league found (improved_by None cost 0) (if is_improved_by None cost then start_of league else best_g))
           (sym (best_prefix-none league))
           (IsLeader-more league None [] None (start_of league) best_g cost 0 refl cost_here refl start);
     }

@@ -88,10 +88,10 @@ best-first league h e never false is =
 
 -- where one was
 best-other : (league : LeagueData) (h p : List Entry) (e : Entry) → IsBestPrefix league h p →
-    (leads : Bool) →
+    (improves : Bool) →
     ((cost_at league (h ++ e ∷ [])).hard == 0 &&
-    ltb (total_of (cost_at league (h ++ e ∷ []))) (total_of (cost_at league p))) ≡ leads →
-    IsBestOf league (h ++ e ∷ []) (if leads then Some (h ++ e ∷ []) else Some p)
+    ltb (total_of (cost_at league (h ++ e ∷ []))) (total_of (cost_at league p))) ≡ improves →
+    IsBestOf league (h ++ e ∷ []) (if improves then Some (h ++ e ∷ []) else Some p)
 best-other league h p e best true is =
     let cost = cost_at league (h ++ e ∷ []) in
     let both = and_parts (cost.hard == 0) (ltb (total_of cost) (total_of (cost_at league p))) is in

@@ -147,9 +147,9 @@ number_of-first : (league : LeagueData) (p : List Entry) (free : Bool) → total
 number_of-first league p true few = few
 number_of-first league p false few = omega arith
 
-number_of-other : (league : LeagueData) (p q : List Entry) (leads : Bool) →
-    (leads ≡ true → total_of (cost_at league p) ≤ total_of (cost_at league q)) →
-    number_of league (if leads then Some p else Some q) ≤ total_of (cost_at league q)
+number_of-other : (league : LeagueData) (p q : List Entry) (improves : Bool) →
+    (improves ≡ true → total_of (cost_at league p) ≤ total_of (cost_at league q)) →
+    number_of league (if improves then Some p else Some q) ≤ total_of (cost_at league q)
 number_of-other league p q true less = less refl
 number_of-other league p q false less = omega arith
 
@@ -159,9 +159,9 @@ number_of-better league None p few = number_of-first league p ((cost_at league p
 number_of-better league (Some q) p few =
     let lower : Bool = nat_lt (total_of (cost_at league p)) (total_of (cost_at league q)) in
     number_of-other league p q ((cost_at league p).hard == 0 && lower)
-    (λ leads. omega (
+    (λ improves. omega (
       arith,
-      ltb-true (total_of (cost_at league p)) (total_of (cost_at league q)) (and_parts ((cost_at league p).hard == 0) lower leads).1,
+      ltb-true (total_of (cost_at league p)) (total_of (cost_at league q)) (and_parts ((cost_at league p).hard == 0) lower improves).1,
     ))
 
 total_small : (league : LeagueData) (h : List Entry) → IsLeague league → total_of (cost_at league h) < score_limit

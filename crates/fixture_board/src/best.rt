@@ -2,7 +2,7 @@
 
 ghost use Rattle.std.specs.Prelude.{◌≡◌, ◌^◌, ◌<◌, if◌then◌else◌};
 ghost use Rattle.costs.specs.Costs.{total_of};
-ghost use Rattle.fixture_board.specs.within.Kept.{leads, led_by};
+ghost use Rattle.fixture_board.specs.within.Kept.{improved_by, is_improved_by};
 
 use costs::Cost;
 use fixtures::Schedule;
@@ -25,10 +25,10 @@ pub(crate) fn keep_best(
     at: u64,
 )
     requires { total_of cost < 2 ^ 64 }
-    ensures best { best.new ≡ led_by best.old cost at }
-    ensures schedule { best_schedule.new ≡ (if leads best.old cost then schedule.now else best_schedule.old) }
+    ensures best { best.new ≡ improved_by best.old cost at }
+    ensures schedule { best_schedule.new ≡ (if is_improved_by best.old cost then schedule.now else best_schedule.old) }
 {
-    if leads(*best, cost) {
+    if is_improved_by(*best, cost) {
         let total = cost.total();
         *best = Some(Best { at, total });
         best_schedule.copy_from(schedule);
@@ -36,9 +36,9 @@ pub(crate) fn keep_best(
 }
 
 /// Whether a version of this cost is better than the best so far: feasible, and of a lesser total.
-fn leads(best: Option<Best>, cost: Cost) -> bool
+fn is_improved_by(best: Option<Best>, cost: Cost) -> bool
     requires { total_of cost < 2 ^ 64 }
-    ensures { result ≡ leads best cost }
+    ensures { result ≡ is_improved_by best cost }
 {
     match best {
         None => cost.is_feasible(),

@@ -17,12 +17,12 @@ use Rattle.fixture_board.proofs.ForCallers.{games_of_teams}
 use Rattle.fixture_board.proofs.Rewinding.{same_best_rewound}
 use Rattle.fixture_board.proofs.Sound.{IsSound-legal}
 use Rattle.improvement.specs.Broken.{broken_in, is_broken}
-use Rattle.improvement.specs.Chains.{better, chains_of, is_of, meeting, reached}
+use Rattle.improvement.specs.Chains.{better, chains_of, is_of, offered, reached}
 use Rattle.improvement.specs.within.Chains.{IsInLeague}
 use Rattle.improvement.specs.declared.chains.ChainBest.{ChainBest}
 use Rattle.improvement.specs.declared.broken.Part.{Part}
 use Rattle.improvement.specs.Laws.{CannotBeKept}
-use Rattle.improvement.specs.Legs.{AreLegs, LegRun, leads}
+use Rattle.improvement.specs.Legs.{AreLegs, LegRun, improves}
 use Rattle.texts.specs.SearchText.{games_at_best}
 
 -- ---- the first element that passes
@@ -47,8 +47,8 @@ module _ {X : Type 0} (p : X → Bool) where
 
 new_by : (later best : ChainBest) (bests : List ChainBest) (c : Bool) → is_of later.chain best ≡ c →
     position_or_len (is_of later.chain) (best ∷ bests) ≡ suc (length bests) →
-    (position_or_len (is_of later.chain) bests ≡ length bests → meeting later bests ≡ bests ++ later ∷ []) →
-    (if c then better later best ∷ bests else best ∷ meeting later bests) ≡ best ∷ (bests ++ later ∷ [])
+    (position_or_len (is_of later.chain) bests ≡ length bests → offered later bests ≡ bests ++ later ∷ []) →
+    (if c then better later best ∷ bests else best ∷ offered later bests) ≡ best ∷ (bests ++ later ∷ [])
 new_by later best bests true is none rest = let at : 0 ≡ suc (length bests) = rw is at none in absurd (omega (arith, at))
 new_by later best bests false is none rest =
     let at : 1 + position_or_len (is_of later.chain) bests ≡ suc (length bests) = rw is at none in
@@ -56,16 +56,16 @@ new_by later best bests false is none rest =
 
 -- a chain that ended no leg before
 pub met_new : (later : ChainBest) (bests : List ChainBest) → position_or_len (is_of later.chain) bests ≡ length bests →
-    meeting later bests ≡ bests ++ later ∷ []
+    offered later bests ≡ bests ++ later ∷ []
 met_new later [] none = refl
 met_new later (best ∷ bests) none =
     new_by later best bests (is_of later.chain best) refl none (met_new later bests)
 
 met_by : (later best d : ChainBest) (bests : List ChainBest) (c : Bool) → is_of later.chain best ≡ c →
     position_or_len (is_of later.chain) (best ∷ bests) < suc (length bests) →
-    (position_or_len (is_of later.chain) bests < length bests → meeting later bests ≡ set bests (position_or_len (is_of later.chain) bests)
+    (position_or_len (is_of later.chain) bests < length bests → offered later bests ≡ set bests (position_or_len (is_of later.chain) bests)
     (better later (get_or bests (position_or_len (is_of later.chain) bests) d))) →
-    (if c then better later best ∷ bests else best ∷ meeting later bests) ≡
+    (if c then better later best ∷ bests else best ∷ offered later bests) ≡
     set (best ∷ bests) (position_or_len (is_of later.chain) (best ∷ bests))
     (better later (get_or (best ∷ bests) (position_or_len (is_of later.chain) (best ∷ bests)) d))
 met_by later best d bests true is within rest = rw is refl
@@ -77,23 +77,23 @@ met_by later best d bests false is within rest =
 
 -- one that ended a leg before
 pub met_again : (later d : ChainBest) (bests : List ChainBest) → position_or_len (is_of later.chain) bests < length bests →
-    meeting later bests ≡ set bests (position_or_len (is_of later.chain) bests)
+    offered later bests ≡ set bests (position_or_len (is_of later.chain) bests)
     (better later (get_or bests (position_or_len (is_of later.chain) bests) d))
 met_again later d [] within = absurd (omega arith)
 met_again later d (best ∷ bests) within = met_by later best d bests (is_of later.chain best) refl within (met_again later d bests)
 
 -- where a better one comes, and where a worse one
 pub met_better : (later earlier : ChainBest) (bests : List ChainBest) (place : ℕ) → place ≡ position_or_len (is_of later.chain) bests →
-    place < length bests → earlier ≡ get_or bests place earlier → leads later.standing earlier.standing ≡ true →
-    meeting later bests ≡ set bests place later
-met_better later earlier bests place is within at leads_is =
-    met_again later earlier bests (rw is at within) ∙ rw (← is, ← at, leads_is) refl
+    place < length bests → earlier ≡ get_or bests place earlier → improves later.standing earlier.standing ≡ true →
+    offered later bests ≡ set bests place later
+met_better later earlier bests place is within at improves_is =
+    met_again later earlier bests (rw is at within) ∙ rw (← is, ← at, improves_is) refl
 
 pub met_worse : (later earlier : ChainBest) (bests : List ChainBest) (place : ℕ) → place ≡ position_or_len (is_of later.chain) bests →
-    place < length bests → earlier ≡ get_or bests place earlier → leads later.standing earlier.standing ≡ false →
-    meeting later bests ≡ bests
-met_worse later earlier bests place is within at leads_is =
-    met_again later earlier bests (rw is at within) ∙ rw (← is, ← at, leads_is) (rw (← at) at (set-get_or bests place earlier))
+    place < length bests → earlier ≡ get_or bests place earlier → improves later.standing earlier.standing ≡ false →
+    offered later bests ≡ bests
+met_worse later earlier bests place is within at improves_is =
+    met_again later earlier bests (rw is at within) ∙ rw (← is, ← at, improves_is) (rw (← at) at (set-get_or bests place earlier))
 
 -- ---- what holds of each
 
@@ -102,19 +102,19 @@ module _ (P : ChainBest → Type 0) where
   better_all later earlier true is before = is
   better_all later earlier false is before = before
 
-  meeting_by : (later best : ChainBest) (bests : List ChainBest) (c : Bool) → P later → All P (best ∷ bests) → All P (meeting later bests) →
-      All P (if c then better later best ∷ bests else best ∷ meeting later bests)
-  meeting_by later best bests true is all rest =
+  offered_by : (later best : ChainBest) (bests : List ChainBest) (c : Bool) → P later → All P (best ∷ bests) → All P (offered later bests) →
+      All P (if c then better later best ∷ bests else best ∷ offered later bests)
+  offered_by later best bests true is all rest =
       All-cons P (better later best) bests
-      (better_all later best (leads later.standing best.standing) is (All-head P best bests all))
+      (better_all later best (improves later.standing best.standing) is (All-head P best bests all))
       (All-rest P best bests (best ∷ bests) refl all)
-  meeting_by later best bests false is all rest = All-cons P best (meeting later bests) (All-head P best bests all) rest
+  offered_by later best bests false is all rest = All-cons P best (offered later bests) (All-head P best bests all) rest
 
-  meeting_all : (later : ChainBest) (bests : List ChainBest) → P later → All P bests → All P (meeting later bests)
-  meeting_all later [] is all = All-cons P later [] is all
-  meeting_all later (best ∷ bests) is all =
-      meeting_by later best bests (is_of later.chain best) is all
-      (meeting_all later bests is (All-rest P best bests (best ∷ bests) refl all))
+  offered_all : (later : ChainBest) (bests : List ChainBest) → P later → All P bests → All P (offered later bests)
+  offered_all later [] is all = All-cons P later [] is all
+  offered_all later (best ∷ bests) is all =
+      offered_by later best bests (is_of later.chain best) is all
+      (offered_all later bests is (All-rest P best bests (best ∷ bests) refl all))
 
   chains_all : (league : LeagueData) (room : ℕ) (legs : List LegRun) →
       ((chain : ℕ) (h : List Entry) → IsLegal league room h → P (reached chain league h)) → AreLegs league room legs →
@@ -122,7 +122,7 @@ module _ (P : ChainBest → Type 0) where
   unfolding chains_of
   chains_all league room [] each are = All-nil P
   chains_all league room (run ∷ before) each are =
-      meeting_all (reached run.chain league run.history) (chains_of league before) (each run.chain run.history are.0.legal)
+      offered_all (reached run.chain league run.history) (chains_of league before) (each run.chain run.history are.0.legal)
       (chains_all league room before each are.1)
 
 reached_in : (league : LeagueData) (h : List Entry) (prefix : Option (List Entry)) → (games_at_best league h prefix).teams ≡ teams league

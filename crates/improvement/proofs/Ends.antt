@@ -1,4 +1,4 @@
--- The end of an improvement: what is written when all legs were told, and what the sink has got.
+-- The end of an improvement: what is written when all legs were reported, and what the sink has got.
 use Rattle.std.proofs.Common.{◌≡◌, ℕ, ◌≤◌, true, List, [], ◌++◌, length, All, Option, Result, Ok, Err, refl, sym, ◌∙◌, ap, subst, inr, arith}
 use Rattle.std.specs.Borrow.{MutBor}
 use Rattle.std.specs.Io.KnownBytes.{Appends}
@@ -15,7 +15,7 @@ use Rattle.streams.proofs.Sendings.{AppendsAllBut-all}
 use Rattle.texts.specs.SearchText.{PlaysBack, improved_text}
 use Rattle.texts.proofs.ForCallers.{plays_back}
 use Rattle.annealing.specs.declared.unit.Unit.{Unit as Measure}
-use Rattle.improvement.specs.declared.told.Told.{Told}
+use Rattle.improvement.specs.declared.reported.Reported.{Reported}
 use Rattle.annealing.specs.Walks.{IsUnitOf}
 use Rattle.improvement.specs.declared.plan.ImproveFault.{ImproveFault}
 use Rattle.improvement.specs.declared.plan.ImproveFault.TheVariants.{Workers, Memory, Write}
@@ -36,41 +36,41 @@ unfolding improve_text
 ending_is league unit legs = refl
 
 module _ {W : Type 0} (held : W → Option (List ℕ)) (tally : W → Tally) (start : Book) (unit : Measure) (plan : ImprovePlan) where
-  -- what is written once all legs were told
-  abbrev pub end_text : Told → List ℕ
-  end_text told =
-      broken_if told.least told.lead.league told.chains.bests.items ++ improved_text told.lead.league told.lead.history
+  -- what is written once all legs were reported
+  abbrev pub end_text : Reported → List ℕ
+  end_text reported =
+      broken_if reported.least reported.lead.league reported.chains.bests.items ++ improved_text reported.lead.league reported.lead.history
 
   -- the texts of all legs, and that
-  text_is : (a x : BufferedSink W) (told : Told) (all : HasRunAll held tally start unit plan a x told) →
-      legs_text start.league unit all.sent.legs ++ end_text told ≡ improve_text start.league unit true all.sent.legs
-  text_is a x told all =
-      rw (all.told_is.lead_is, all.told_is.least_is, all.told_is.chains_is) (sym (ending_is start.league unit all.sent.legs))
+  text_is : (a x : BufferedSink W) (reported : Reported) (all : HasRunAll held tally start unit plan a x reported) →
+      legs_text start.league unit all.sent.legs ++ end_text reported ≡ improve_text start.league unit true all.sent.legs
+  text_is a x reported all =
+      rw (all.reported_is.lead_is, all.reported_is.least_is, all.reported_is.chains_is) (sym (ending_is start.league unit all.sent.legs))
 
   -- the chains have schedules of the league's teams
-  pub told_in : {a x : BufferedSink W} (told : Told) → HasRunAll held tally start unit plan a x told →
-      All (IsInLeague told.lead.league) told.chains.bests.items
-  told_in told all = rw (all.told_is.lead_is, all.told_is.chains_is) (chains_in start.league start.room all.sent.legs all.sent.are)
+  pub reported_in : {a x : BufferedSink W} (reported : Reported) → HasRunAll held tally start unit plan a x reported →
+      All (IsInLeague reported.lead.league) reported.chains.bests.items
+  reported_in reported all = rw (all.reported_is.lead_is, all.reported_is.chains_is) (chains_in start.league start.room all.sent.legs all.sent.are)
 
-  pub end_stops : {a x y : BufferedSink W} (told : Told) → HasRunAll held tally start unit plan a x told →
-      Stops held tally x y (end_text told) → HasStopped held tally start unit plan a y
-  end_stops {a} {x} {y} told all stops = record {
+  pub end_stops : {a x y : BufferedSink W} (reported : Reported) → HasRunAll held tally start unit plan a x reported →
+      Stops held tally x y (end_text reported) → HasStopped held tally start unit plan a y
+  end_stops {a} {x} {y} reported all stops = record {
     legs = all.sent.legs;
     are = all.sent.are;
     ended = true;
     all = λ ended. all.all;
-    stops = subst (Stops held tally a y) (text_is a x told all) (Adds-stops all.sent.sends.adds stops);
+    stops = subst (Stops held tally a y) (text_is a x reported all) (Adds-stops all.sent.sends.adds stops);
   }
 
-  pub end_written : {a x y : BufferedSink W} (told : Told) (best : Option Best) → HasRunAll held tally start unit plan a x told →
-      Adds held tally x y (end_text told) → waiting_in y ≡ [] →
-      best ≡ best_of told.lead.league told.lead.history → HasWritten held tally start unit plan a y best
-  end_written {a} {x} {y} told best all adds none best_is = record {
+  pub end_written : {a x y : BufferedSink W} (reported : Reported) (best : Option Best) → HasRunAll held tally start unit plan a x reported →
+      Adds held tally x y (end_text reported) → waiting_in y ≡ [] →
+      best ≡ best_of reported.lead.league reported.lead.history → HasWritten held tally start unit plan a y best
+  end_written {a} {x} {y} reported best all adds none best_is = record {
     legs = all.sent.legs;
     are = all.sent.are;
     all = all.all;
-    best_is = best_is ∙ ap (λ (b : Book). best_of b.league b.history) all.told_is.lead_is;
-    sends = record { adds = subst (Adds held tally a y) (text_is a x told all) (Adds-then all.sent.sends.adds adds); sent = none };
+    best_is = best_is ∙ ap (λ (b : Book). best_of b.league b.history) all.reported_is.lead_is;
+    sends = record { adds = subst (Adds held tally a y) (text_is a x reported all) (Adds-then all.sent.sends.adds adds); sent = none };
   }
 
 -- ---- what the sink has got

@@ -20,7 +20,7 @@ use Rattle.fixture_board.proofs.Sound.{IsSound-legal}
 use Rattle.texts.specs.SearchText.{games_at_best}
 use Rattle.annealing.specs.Legs.{total_in}
 use Rattle.improvement.specs.Laws.{Fall, IsAtMost, IsEnd, IsSolution, newest, newest_total}
-use Rattle.improvement.specs.Legs.{AreLegs, LegRun, lead_of, leads, leads_by, least_in, least_told, lesser, standing_of}
+use Rattle.improvement.specs.Legs.{AreLegs, LegRun, improves, improves_by, lead_of, least_in, least_reported, lesser, standing_of}
 use Rattle.improvement.specs.Solutions.{Solution, below, best_solution, best_with, is_below, solutions_of}
 use Rattle.improvement.proofs.Leads.{lead_legal, least_leads}
 
@@ -39,11 +39,11 @@ newest_more league h None (Some total) older same = refl
 newest_more league h (Some least) (Some total) older same =
     total_by least (best_with league h total) older (nat_lt total least) refl same
 
-newest_is : (league : LeagueData) (legs : List LegRun) → newest_total (solutions_of league legs) ≡ least_told league legs
+newest_is : (league : LeagueData) (legs : List LegRun) → newest_total (solutions_of league legs) ≡ least_reported league legs
 unfolding solutions_of
 newest_is league [] = refl
 newest_is league (run ∷ before) =
-    newest_more league run.history (least_told league before) (least_in league run.history) (solutions_of league before)
+    newest_more league run.history (least_reported league before) (least_in league run.history) (solutions_of league before)
     (newest_is league before)
 
 fall_by : (s : Solution) (older : List Solution) (c : Bool) → is_below s.total (newest_total older) ≡ c → Fall older →
@@ -103,7 +103,7 @@ pub solutions_are_feasible : (league : LeagueData) (room : ℕ) (legs : List Leg
 unfolding solutions_of
 solutions_are_feasible league room [] limits are = All-nil (IsSolution league)
 solutions_are_feasible league room (run ∷ before) limits are =
-    each_more (IsSolution league) (least_told league before) (best_solution league run.history) (solutions_of league before)
+    each_more (IsSolution league) (least_reported league before) (best_solution league run.history) (solutions_of league before)
     (best_holds league room run.history limits are.0.legal) (solutions_are_feasible league room before limits are.1)
 
 -- ---- no leg has a lesser total, nor has the start
@@ -131,15 +131,15 @@ lesser_second (Some x) (Some y) = omega arith
 abbrev IsNotBelow : LeagueData → Option ℕ → LegRun → Type 0
 IsNotBelow league total run = IsAtMost total (least_in league run.history)
 
-told_least : (league : LeagueData) (legs : List LegRun) → All (IsNotBelow league (least_told league legs)) legs
-told_least league [] = All-nil (IsNotBelow league None)
-told_least league (run ∷ before) =
-    let told = least_told league before in
+reported_least : (league : LeagueData) (legs : List LegRun) → All (IsNotBelow league (least_reported league legs)) legs
+reported_least league [] = All-nil (IsNotBelow league None)
+reported_least league (run ∷ before) =
+    let reported = least_reported league before in
     let best = least_in league run.history in
-    All-cons (IsNotBelow league (lesser told best)) run before (lesser_second told best)
-    (All-weaker (IsNotBelow league told) (IsNotBelow league (lesser told best))
-    (λ r most. at_most_along (lesser told best) told (least_in league r.history) (lesser_first told best) most) before
-    (told_least league before))
+    All-cons (IsNotBelow league (lesser reported best)) run before (lesser_second reported best)
+    (All-weaker (IsNotBelow league reported) (IsNotBelow league (lesser reported best))
+    (λ r most. at_most_along (lesser reported best) reported (least_in league r.history) (lesser_first reported best) most) before
+    (reported_least league before))
 
 start_cost : (league : LeagueData) → cost_at league [] ≡ cost_of league (start_of league)
 unfolding cost_at games_of games_after effective
@@ -188,7 +188,7 @@ by_test a b older false same = same
 newest_by : (league : LeagueData) (h l : List Entry) (x y : Option ℕ) (fewer : Bool) (older : List Solution) →
     newest older ≡ option_map (best_with league l) y →
     newest (cons_option (below y (option_map (best_with league h) x)) older) ≡
-    (if leads_by x y fewer then option_map (best_with league h) x else option_map (best_with league l) y)
+    (if improves_by x y fewer then option_map (best_with league h) x else option_map (best_with league l) y)
 newest_by league h l (Some x) (Some y) fewer older same = by_test (best_with league h x) (best_with league l y) older (nat_lt x y) same
 newest_by league h l (Some x) None fewer older same = refl
 newest_by league h l None (Some y) fewer older same = same
@@ -202,12 +202,12 @@ chosen league h l false = refl
 
 newest_leads : (league : LeagueData) (h l : List Entry) (older : List Solution) → newest older ≡ best_solution league l →
     newest (cons_option (below (least_in league l) (best_solution league h)) older) ≡
-    best_solution league (if leads (standing_of league h) (standing_of league l) then rewound league h else l)
-unfolding leads
+    best_solution league (if improves (standing_of league h) (standing_of league l) then rewound league h else l)
+unfolding improves
 newest_leads league h l older same =
     let h_is = standing_of league h in
     let l_is = standing_of league l in
-    newest_by league h l h_is.best l_is.best (nat_lt h_is.hard l_is.hard) older same ∙ chosen league h l (leads h_is l_is)
+    newest_by league h l h_is.best l_is.best (nat_lt h_is.hard l_is.hard) older same ∙ chosen league h l (improves h_is l_is)
 
 last_leads : (league : LeagueData) (run : LegRun) (before : List LegRun) →
     newest (solutions_of league (run ∷ before)) ≡ best_solution league (lead_of league (run ∷ before))
@@ -244,7 +244,7 @@ unfolding lead_of
 lead_whole league run [] = rewound_whole league run.history
 lead_whole league run (r ∷ before) =
     let l = lead_of league (r ∷ before) in
-    chosen_whole league run.history l (leads (standing_of league run.history) (standing_of league l)) (lead_whole league r before)
+    chosen_whole league run.history l (improves (standing_of league run.history) (standing_of league l)) (lead_whole league r before)
 
 pub end_is_least : (league : LeagueData) (room : ℕ) (legs : List LegRun) → AreLegs league room legs → 0 < length legs →
     IsEnd league room legs (lead_of league legs)
@@ -253,7 +253,7 @@ end_is_least league room (run ∷ before) are some =
     let all = run ∷ before in
     record {
       legal = lead_legal league room all are;
-      each = subst (λ (total : Option ℕ). All (IsNotBelow league total) all) (sym (least_leads league run before)) (told_least league all);
+      each = subst (λ (total : Option ℕ). All (IsNotBelow league total) all) (sym (least_leads league run before)) (reported_least league all);
       start = start_most league (lead_of league all);
       whole = lead_whole league run before;
       last = last_leads league run before;

@@ -16,7 +16,7 @@ use Rattle.annealing.specs.declared.chain.Annealed.{Annealed}
 use Rattle.annealing.specs.declared.unit.Unit.{Unit as Measure}
 use Rattle.annealing.specs.Legs.{AreFigures}
 use Rattle.improvement.specs.declared.field.Entrant.{Entrant}
-use Rattle.improvement.specs.declared.leg_text.LegTold.{LegTold}
+use Rattle.improvement.specs.declared.leg_text.ReportedLeg.{ReportedLeg}
 use Rattle.improvement.specs.declared.legs.RunningLeg.{RunningLeg}
 use Rattle.improvement.specs.declared.legs.Turn.{Turn}
 use Rattle.improvement.specs.declared.legs.WaitingLeg.{WaitingLeg}
@@ -24,15 +24,15 @@ use Rattle.improvement.specs.declared.line.Line.{Line}
 use Rattle.improvement.specs.declared.plan.ImproveFault.{ImproveFault}
 use Rattle.improvement.specs.declared.plan.ImproveFault.TheVariants.{Workers, Memory, Write}
 use Rattle.improvement.specs.declared.plan.ImprovePlan.{ImprovePlan}
-use Rattle.improvement.specs.declared.told.Told.{Told}
-use Rattle.improvement.specs.Chains.{chains_of, meeting, reached}
+use Rattle.improvement.specs.declared.reported.Reported.{Reported}
+use Rattle.improvement.specs.Chains.{chains_of, offered, reached}
 use Rattle.improvement.specs.within.Fields.{StageData}
-use Rattle.improvement.specs.Legs.{AreLegs, IsLegAfter, LegRun, lead_of, least_in, least_told, lesser, steps_in, steps_of}
+use Rattle.improvement.specs.Legs.{AreLegs, IsLegAfter, LegRun, lead_of, least_in, least_reported, lesser, steps_in, steps_of}
 use Rattle.improvement.specs.within.Legs.{lead_after}
-use Rattle.improvement.specs.LegText.{ending, improve_text, leg_text, legs_text, told_as}
+use Rattle.improvement.specs.LegText.{ending, improve_text, leg_text, legs_text, reported_as}
 use Rattle.improvement.specs.within.Lines.{CanEnd, IsAtBeginning, IsEntrant, IsLine, IsRunning, IsStage, IsWaiting, MayBegin, anew, left_in}
 use Rattle.improvement.specs.within.Lines.{running_steps, turn_steps}
-use Rattle.improvement.specs.within.UnderWay.{EndsBy, HasRunAll, HasSent, HasStopped, HasTold, IsUnderWay, Sends}
+use Rattle.improvement.specs.within.UnderWay.{EndsBy, HasReported, HasRunAll, HasSent, HasStopped, IsUnderWay, Sends}
 use Rattle.improvement.proofs.Lines.{state_weaker}
 
 -- ---- what may go on after some legs may do so after one more
@@ -119,114 +119,114 @@ unfolding lead_of
 lead_next league run [] = refl
 lead_next league run (r ∷ before) = rw (not_first (length before)) refl
 
-pub told_more : (start : Book) (legs : List LegRun) (told new : Told) (turn : Turn) (now : Annealed) → HasTold start legs told →
-    new.lead ≡ book told.lead.league told.lead.room (lead_after told.lead.league told.legs told.lead.history now.chain.board.history) →
-    new.least ≡ lesser told.least (least_in told.lead.league now.chain.board.history) → new.legs ≡ told.legs + 1 →
-    new.chains.bests.items ≡ meeting (reached turn.chain told.lead.league now.chain.board.history) told.chains.bests.items →
-    HasTold start (run_of turn now ∷ legs) new
+pub reported_more : (start : Book) (legs : List LegRun) (reported new : Reported) (turn : Turn) (now : Annealed) → HasReported start legs reported →
+    new.lead ≡ book reported.lead.league reported.lead.room (lead_after reported.lead.league reported.legs reported.lead.history now.chain.board.history) →
+    new.least ≡ lesser reported.least (least_in reported.lead.league now.chain.board.history) → new.legs ≡ reported.legs + 1 →
+    new.chains.bests.items ≡ offered (reached turn.chain reported.lead.league now.chain.board.history) reported.chains.bests.items →
+    HasReported start (run_of turn now ∷ legs) new
 unfolding chains_of
-told_more start legs told new turn now is lead least count chains = record {
+reported_more start legs reported new turn now is lead least count chains = record {
   lead_is = lead ∙ rw (is.lead_is, is.count) (ap (book start.league start.room) (lead_next start.league (run_of turn now) legs));
   least_is = least ∙ rw (is.lead_is, is.least_is) refl;
   count = omega (arith, count, is.count);
   chains_is = chains ∙ rw (is.lead_is, is.chains_is) refl;
 }
 
-abbrev pub leg_told : Told → Turn → Annealed → LegTold
-leg_told told turn now = record { number = told.legs + 1; chain = turn.chain; leg = turn.leg; end = now.end }
+abbrev pub reported_leg : Reported → Turn → Annealed → ReportedLeg
+reported_leg reported turn now = record { number = reported.legs + 1; chain = turn.chain; leg = turn.leg; end = now.end }
 
-text_is : (start : Book) (legs : List LegRun) (unit : Measure) (told : Told) (turn : Turn) (now : Annealed) → CanEnd start legs turn now →
-    HasTold start legs told → leg_text now.chain.board.league unit (leg_told told turn now) told.least now.chain.board.history ≡
-    leg_text start.league unit (told_as (length legs + 1) (run_of turn now)) (least_told start.league legs) now.chain.board.history
-text_is start legs unit told turn now e is = rw (league_is turn now e, is.count, is.least_is) refl
+text_is : (start : Book) (legs : List LegRun) (unit : Measure) (reported : Reported) (turn : Turn) (now : Annealed) → CanEnd start legs turn now →
+    HasReported start legs reported → leg_text now.chain.board.league unit (reported_leg reported turn now) reported.least now.chain.board.history ≡
+    leg_text start.league unit (reported_as (length legs + 1) (run_of turn now)) (least_reported start.league legs) now.chain.board.history
+text_is start legs unit reported turn now e is = rw (league_is turn now e, is.count, is.least_is) refl
 
 module _ {W : Type 0} (held : W → Option (List ℕ)) (tally : W → Tally) (start : Book) (unit : Measure) (plan : ImprovePlan) where
-  pub sends_more : {a b c : BufferedSink W} (w : HasSent held tally start unit plan a b) (told : Told) (turn : Turn) (now : Annealed) →
-      CanEnd start w.legs turn now → HasTold start w.legs told →
-      Adds held tally b c (leg_text now.chain.board.league unit (leg_told told turn now) told.least now.chain.board.history) →
+  pub sends_more : {a b c : BufferedSink W} (w : HasSent held tally start unit plan a b) (reported : Reported) (turn : Turn) (now : Annealed) →
+      CanEnd start w.legs turn now → HasReported start w.legs reported →
+      Adds held tally b c (leg_text now.chain.board.league unit (reported_leg reported turn now) reported.least now.chain.board.history) →
       waiting_in c ≡ [] → Sends held tally start unit plan a c (legs_text start.league unit (run_of turn now ∷ w.legs))
   unfolding legs_text
-  sends_more {a} {b} {c} w told turn now e is adds none = record {
-    adds = Adds-then w.sends.adds (subst (Adds held tally b c) (text_is start w.legs unit told turn now e is) adds);
+  sends_more {a} {b} {c} w reported turn now e is adds none = record {
+    adds = Adds-then w.sends.adds (subst (Adds held tally b c) (text_is start w.legs unit reported turn now e is) adds);
     sent = none;
   }
 
-  abbrev pub sent_more : {a b c : BufferedSink W} (w : HasSent held tally start unit plan a b) (told : Told) (turn : Turn)
-      (now : Annealed) → CanEnd start w.legs turn now → HasTold start w.legs told →
-      Adds held tally b c (leg_text now.chain.board.league unit (leg_told told turn now) told.least now.chain.board.history) →
+  abbrev pub sent_more : {a b c : BufferedSink W} (w : HasSent held tally start unit plan a b) (reported : Reported) (turn : Turn)
+      (now : Annealed) → CanEnd start w.legs turn now → HasReported start w.legs reported →
+      Adds held tally b c (leg_text now.chain.board.league unit (reported_leg reported turn now) reported.least now.chain.board.history) →
       waiting_in c ≡ [] → HasSent held tally start unit plan a c
-  sent_more w told turn now e is adds none = record {
+  sent_more w reported turn now e is adds none = record {
     legs = run_of turn now ∷ w.legs;
     are = (leg_is turn now e, w.are);
-    sends = sends_more w told turn now e is adds none;
+    sends = sends_more w reported turn now e is adds none;
   }
 
-  pub stopped_more : {a b c : BufferedSink W} (w : HasSent held tally start unit plan a b) (told : Told) (turn : Turn) (now : Annealed) →
-      CanEnd start w.legs turn now → HasTold start w.legs told →
-      Stops held tally b c (leg_text now.chain.board.league unit (leg_told told turn now) told.least now.chain.board.history) →
+  pub stopped_more : {a b c : BufferedSink W} (w : HasSent held tally start unit plan a b) (reported : Reported) (turn : Turn) (now : Annealed) →
+      CanEnd start w.legs turn now → HasReported start w.legs reported →
+      Stops held tally b c (leg_text now.chain.board.league unit (reported_leg reported turn now) reported.least now.chain.board.history) →
       HasStopped held tally start unit plan a c
   unfolding legs_text improve_text
-  stopped_more {a} {b} {c} w told turn now e is stops = record {
+  stopped_more {a} {b} {c} w reported turn now e is stops = record {
     legs = run_of turn now ∷ w.legs;
     are = (leg_is turn now e, w.are);
     ended = false;
     all = λ ended. absurd (true≢false (sym ended));
     stops = Stops-more (ending start.league false (run_of turn now ∷ w.legs))
-        (Adds-stops w.sends.adds (subst (Stops held tally b c) (text_is start w.legs unit told turn now e is) stops));
+        (Adds-stops w.sends.adds (subst (Stops held tally b c) (text_is start w.legs unit reported turn now e is) stops));
   }
 
   -- the line goes on with the chain of the leg
-  pub under_way_more : {a b c : BufferedSink W} (leg : RunningLeg) (line new : Line) (told told' : Told) (now : Annealed)
-      (w : IsUnderWay held tally start unit plan a b (leg ∷ []) line told) → CanEnd start w.sent.legs leg.turn now →
-      Adds held tally b c (leg_text now.chain.board.league unit (leg_told told leg.turn now) told.least now.chain.board.history) →
+  pub under_way_more : {a b c : BufferedSink W} (leg : RunningLeg) (line new : Line) (reported reported' : Reported) (now : Annealed)
+      (w : IsUnderWay held tally start unit plan a b (leg ∷ []) line reported) → CanEnd start w.sent.legs leg.turn now →
+      Adds held tally b c (leg_text now.chain.board.league unit (reported_leg reported leg.turn now) reported.least now.chain.board.history) →
       waiting_in c ≡ [] →
-      told'.lead ≡ book told.lead.league told.lead.room (lead_after told.lead.league told.legs told.lead.history now.chain.board.history) →
-      told'.least ≡ lesser told.least (least_in told.lead.league now.chain.board.history) → told'.legs ≡ told.legs + 1 →
-      told'.chains.bests.items ≡ meeting (reached leg.turn.chain told.lead.league now.chain.board.history) told.chains.bests.items →
+      reported'.lead ≡ book reported.lead.league reported.lead.room (lead_after reported.lead.league reported.legs reported.lead.history now.chain.board.history) →
+      reported'.least ≡ lesser reported.least (least_in reported.lead.league now.chain.board.history) → reported'.legs ≡ reported.legs + 1 →
+      reported'.chains.bests.items ≡ offered (reached leg.turn.chain reported.lead.league now.chain.board.history) reported.chains.bests.items →
       ((legs : List LegRun) → IsEntrant start legs (record { number = leg.turn.chain; chain = now.chain }) → IsLine start legs line →
       IsLine start legs new) → left_in new + now.end.steps ≡ left_in line + turn_steps leg.turn →
-      IsUnderWay held tally start unit plan a c [] new told'
-  under_way_more leg line new told told' now w e adds none lead least count chains goes_on left =
+      IsUnderWay held tally start unit plan a c [] new reported'
+  under_way_more leg line new reported reported' now w e adds none lead least count chains goes_on left =
       let run = run_of leg.turn now in
       record {
-        sent = sent_more w.sent told leg.turn now e w.told_is adds none;
+        sent = sent_more w.sent reported leg.turn now e w.reported_is adds none;
         steps = omega (arith, w.steps, left, sum_by-cons steps_of run w.sent.legs, sum_by-cons running_steps leg []);
         running = All-nil (IsRunning start (run ∷ w.sent.legs));
         line_is = goes_on (run ∷ w.sent.legs) (entrant_is leg.turn now e) (line_later start w.sent.legs run line w.line_is);
-        told_is = told_more start w.sent.legs told told' leg.turn now w.told_is lead least count chains;
+        reported_is = reported_more start w.sent.legs reported reported' leg.turn now w.reported_is lead least count chains;
       }
 
   -- each leg took a step
-  pub few_told : {a b : BufferedSink W} (legs : List RunningLeg) (line : Line) (told : Told) →
-      IsUnderWay held tally start unit plan a b legs line told → told.legs ≤ plan.effort
-  few_told legs line told w =
-      omega (arith, w.steps, w.told_is.count, legs_few start.league start.room w.sent.legs w.sent.are)
+  pub few_reported : {a b : BufferedSink W} (legs : List RunningLeg) (line : Line) (reported : Reported) →
+      IsUnderWay held tally start unit plan a b legs line reported → reported.legs ≤ plan.effort
+  few_reported legs line reported w =
+      omega (arith, w.steps, w.reported_is.count, legs_few start.league start.room w.sent.legs w.sent.are)
 
-  -- no leg was told
+  -- no leg was reported
   pub sent_none : (a : BufferedSink W) → waiting_in a ≡ [] → HasSent held tally start unit plan a a
   unfolding legs_text
   sent_none a none = record { legs = []; are = tt; sends = record { adds = Adds-nothing a; sent = none } }
 
-  pub under_way_none : (a : BufferedSink W) (line : Line) (told : Told) → waiting_in a ≡ [] →
-      ((legs : List LegRun) → IsLine start legs line) → left_in line ≡ plan.effort → told.lead ≡ anew start → told.least ≡ None → told.legs ≡ 0 →
-      told.chains.bests.items ≡ [] → IsUnderWay held tally start unit plan a a [] line told
+  pub under_way_none : (a : BufferedSink W) (line : Line) (reported : Reported) → waiting_in a ≡ [] →
+      ((legs : List LegRun) → IsLine start legs line) → left_in line ≡ plan.effort → reported.lead ≡ anew start → reported.least ≡ None → reported.legs ≡ 0 →
+      reported.chains.bests.items ≡ [] → IsUnderWay held tally start unit plan a a [] line reported
   unfolding legs_text lead_of chains_of
-  under_way_none a line told none goes_on left lead least count chains = record {
+  under_way_none a line reported none goes_on left lead least count chains = record {
     sent = record { legs = []; are = tt; sends = record { adds = Adds-nothing a; sent = none } };
     steps = omega (arith, left);
     running = All-nil (IsRunning start []);
     line_is = goes_on [];
-    told_is = record { lead_is = lead; least_is = least; count = count; chains_is = chains };
+    reported_is = record { lead_is = lead; least_is = least; count = count; chains_is = chains };
   }
 
   -- a leg is taken out of the line
-  pub under_way_next : {a b : BufferedSink W} (line new : Line) (told : Told) (first : Option RunningLeg) (leg : RunningLeg) →
-      IsUnderWay held tally start unit plan a b [] line told → first ≡ Some leg →
+  pub under_way_next : {a b : BufferedSink W} (line new : Line) (reported : Reported) (first : Option RunningLeg) (leg : RunningLeg) →
+      IsUnderWay held tally start unit plan a b [] line reported → first ≡ Some leg →
       ((legs : List LegRun) → IsLine start legs line → IsLine start legs new) →
       ((legs : List LegRun) → IsLine start legs line → IfSome first (IsRunning start legs)) →
       IfSome first (λ leg. turn_steps leg.turn + left_in new ≡ left_in line) →
-      IsUnderWay held tally start unit plan a b (leg ∷ []) new told
-  under_way_next line new told first leg w same goes_on runs left =
+      IsUnderWay held tally start unit plan a b (leg ∷ []) new reported
+  under_way_next line new reported first leg w same goes_on runs left =
       let legs = w.sent.legs in
       let is : IsRunning start legs leg = rw same at (runs legs w.line_is) in
       let fewer : turn_steps leg.turn + left_in new ≡ left_in line = rw same at left in
@@ -235,15 +235,15 @@ module _ {W : Type 0} (held : W → Option (List ℕ)) (tally : W → Tally) (st
         steps = omega (arith, w.steps, fewer, sum_by-cons running_steps leg []);
         running = All-cons (IsRunning start legs) leg [] is (All-nil (IsRunning start legs));
         line_is = goes_on legs w.line_is;
-        told_is = w.told_is;
+        reported_is = w.reported_is;
       }
 
-  pub run_all_is : {a b : BufferedSink W} (line : Line) (told : Told) → IsUnderWay held tally start unit plan a b [] line told →
-      (plan.first ≡ None → left_in line ≡ 0) → HasRunAll held tally start unit plan a b told
-  run_all_is line told w none = record {
+  pub run_all_is : {a b : BufferedSink W} (line : Line) (reported : Reported) → IsUnderWay held tally start unit plan a b [] line reported →
+      (plan.first ≡ None → left_in line ≡ 0) → HasRunAll held tally start unit plan a b reported
+  run_all_is line reported w none = record {
     sent = w.sent;
     all = record { few = omega (arith, w.steps); all = λ alone. omega (arith, w.steps, none alone) };
-    told_is = w.told_is;
+    reported_is = w.reported_is;
   }
 
   -- a part that did not end well did so for the whole

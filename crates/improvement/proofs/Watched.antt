@@ -1,4 +1,4 @@
--- What stands at the sink when a leg is told.
+-- What stands at the sink when a leg is reported.
 use Rattle.std.proofs.Common.{◌≡◌, ℕ, Bool, if◌then◌else◌, List, [], ◌∷◌, Option, Some, None, refl, sym, ◌∙◌, ap, subst, subst₂}
 use Rattle.std.specs.Io.KnownBytes.{Appends}
 use Rattle.league.specs.League.{LeagueData}
@@ -12,23 +12,23 @@ use Rattle.annealing.specs.declared.unit.Unit.{Unit as Measure}
 use Rattle.annealing.specs.Walks.{IsUnitOf}
 use Rattle.improvement.specs.declared.legs.Turn.{Turn}
 use Rattle.improvement.specs.declared.plan.ImprovePlan.{ImprovePlan}
-use Rattle.improvement.specs.declared.told.Told.{Told}
+use Rattle.improvement.specs.declared.reported.Reported.{Reported}
 use Rattle.improvement.specs.declared.watcher.LegEnded.{LegEnded}
 use Rattle.improvement.specs.declared.watcher.Written.{Written}
 use Rattle.improvement.specs.Legs.{AreLegs, LegRun, room_of}
 use Rattle.improvement.specs.LegText.{legs_text}
 use Rattle.improvement.specs.Watched.{HasLines, IsNewest, ended_as, takes_lead}
-use Rattle.improvement.specs.within.UnderWay.{HasSent, HasTold}
-use Rattle.improvement.proofs.UnderWay.{leg_told, run_of}
+use Rattle.improvement.specs.within.UnderWay.{HasReported, HasSent}
+use Rattle.improvement.proofs.UnderWay.{reported_leg, run_of}
 
-pub newest_is : (start : Book) (legs : List LegRun) (told new : Told) (turn : Turn) (now : Annealed) (leg : LegEnded) (leads : Bool)
-    (better : Option Book) → HasTold start legs told → HasTold start (run_of turn now ∷ legs) new →
-    leg ≡ ended_as (leg_told told turn now) new.least →
-    leads ≡ takes_lead told.lead.league told.legs told.lead.history now.chain.board.history →
-    better ≡ (if leads then Some new.lead else None) → IsNewest start.league start.room (run_of turn now ∷ legs) leg better
-newest_is start legs told new turn now leg leads better is is' ended leads_is shows = (
+pub newest_is : (start : Book) (legs : List LegRun) (reported new : Reported) (turn : Turn) (now : Annealed) (leg : LegEnded) (improves : Bool)
+    (better : Option Book) → HasReported start legs reported → HasReported start (run_of turn now ∷ legs) new →
+    leg ≡ ended_as (reported_leg reported turn now) new.least →
+    improves ≡ takes_lead reported.lead.league reported.legs reported.lead.history now.chain.board.history →
+    better ≡ (if improves then Some new.lead else None) → IsNewest start.league start.room (run_of turn now ∷ legs) leg better
+newest_is start legs reported new turn now leg improves better is is' ended improves_is shows = (
   ended ∙ rw (is.count, is'.least_is) refl,
-  shows ∙ rw (leads_is, is'.lead_is, is.lead_is, is.count) refl,
+  shows ∙ rw (improves_is, is'.lead_is, is.lead_is, is.count) refl,
 )
 
 module _ {W : Type 0} (held : W → Option (List ℕ)) (tally : W → Tally) (start : Book) (unit : Measure) (plan : ImprovePlan)

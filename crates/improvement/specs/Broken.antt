@@ -15,7 +15,7 @@ use Rattle.improvement.specs.declared.broken.Part.{Part}
 use Rattle.improvement.specs.declared.broken.Part.TheVariants.{Runs, Repeats, Halves, RuleAt}
 use Rattle.improvement.specs.declared.chains.ChainBest.{ChainBest}
 use Rattle.improvement.specs.Chains.{chains_of}
-use Rattle.improvement.specs.Legs.{LegRun, least_told}
+use Rattle.improvement.specs.Legs.{LegRun, least_reported}
 
 -- how many breaches of a part a schedule has
 abbrev pub breaches : LeagueData → Part → Games → ℕ
@@ -63,6 +63,6 @@ abbrev pub broken_if : Option ℕ → LeagueData → List ChainBest → List ℕ
 broken_if None league bests = broken_lines league bests
 broken_if (Some least) league bests = []
 
--- what is told of the chains of these legs, if none of them met a feasible schedule
+-- what is reported of the chains of these legs, if none of them met a feasible schedule
 abbrev pub broken_text : LeagueData → List LegRun → List ℕ
-broken_text league legs = broken_if (least_told league legs) league (chains_of league legs)
+broken_text league legs = broken_if (least_reported league legs) league (chains_of league legs)

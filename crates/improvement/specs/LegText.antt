@@ -13,9 +13,9 @@ use Rattle.policy.specs.Legs.{kinds_of}
 use Rattle.annealing.specs.declared.unit.Unit.{Unit as Measure}
 use Rattle.texts.specs.SearchText.{improved_text}
 use Rattle.texts.specs.Sheet.{sheet_of}
-use Rattle.improvement.specs.declared.leg_text.LegTold.{LegTold}
+use Rattle.improvement.specs.declared.leg_text.ReportedLeg.{ReportedLeg}
 use Rattle.improvement.specs.Broken.{broken_text}
-use Rattle.improvement.specs.Legs.{LegRun, lead_of, least_told}
+use Rattle.improvement.specs.Legs.{LegRun, lead_of, least_reported}
 use Rattle.improvement.specs.Solutions.{Solution, below, best_solution}
 
 abbrev pub kind_word : MoveKind → List ℕ
@@ -50,15 +50,15 @@ number_or_none (Some number) = decimal number
 
 -- which leg it was, of which chain, and what it drew from, the first temperature and the last, with three decimals, the steps, how many of
 -- them made a move, the breaches in the end, and the least total
-abbrev pub leg_line : Measure → LegTold → List ℕ
-leg_line unit told =
-    let from = in_thousandths unit (first_heat told.leg.course) in
-    let to = in_thousandths unit (last_heat told.leg.course told.end) in
-    concat (codes "leg " ∷ decimal told.number ∷ codes " chain " ∷ decimal told.chain ∷ codes " moves " ∷
-    kinds_words (kinds_of told.leg.moves) ∷ codes " from " ∷ decimal (from / 1000) ∷ codes "." ∷ decimal (from / 100 % 10) ∷
+abbrev pub leg_line : Measure → ReportedLeg → List ℕ
+leg_line unit reported =
+    let from = in_thousandths unit (first_heat reported.leg.course) in
+    let to = in_thousandths unit (last_heat reported.leg.course reported.end) in
+    concat (codes "leg " ∷ decimal reported.number ∷ codes " chain " ∷ decimal reported.chain ∷ codes " moves " ∷
+    kinds_words (kinds_of reported.leg.moves) ∷ codes " from " ∷ decimal (from / 1000) ∷ codes "." ∷ decimal (from / 100 % 10) ∷
     decimal (from / 10 % 10) ∷ decimal (from % 10) ∷ codes " to " ∷ decimal (to / 1000) ∷ codes "." ∷ decimal (to / 100 % 10) ∷
-    decimal (to / 10 % 10) ∷ decimal (to % 10) ∷ codes " steps " ∷ decimal told.end.steps ∷ codes " accepted " ∷
-    decimal told.end.accepted ∷ codes " hard " ∷ decimal told.end.hard ∷ codes " best " ∷ number_or_none told.end.best ∷ codes "\n" ∷ [])
+    decimal (to / 10 % 10) ∷ decimal (to % 10) ∷ codes " steps " ∷ decimal reported.end.steps ∷ codes " accepted " ∷
+    decimal reported.end.accepted ∷ codes " hard " ∷ decimal reported.end.hard ∷ codes " best " ∷ number_or_none reported.end.best ∷ codes "\n" ∷ [])
 
 -- the sheet of a solution, its total and a line that ends it
 abbrev pub solution_lines : LeagueData → Solution → List ℕ
@@ -74,18 +74,18 @@ abbrev pub solution_text : LeagueData → Option ℕ → List Entry → List ℕ
 solution_text league least h = text_of league (below least (best_solution league h))
 
 -- what is written when a leg has ended, if this is the least total before
-unfoldable pub leg_text : LeagueData → Measure → LegTold → Option ℕ → List Entry → List ℕ
-leg_text league unit told least h = leg_line unit told ++ solution_text league least h
+unfoldable pub leg_text : LeagueData → Measure → ReportedLeg → Option ℕ → List Entry → List ℕ
+leg_text league unit reported least h = leg_line unit reported ++ solution_text league least h
 
 -- a run, as the leg of this number
-abbrev pub told_as : ℕ → LegRun → LegTold
-told_as number run = record { number = number; chain = run.chain; leg = run.leg; end = run.end }
+abbrev pub reported_as : ℕ → LegRun → ReportedLeg
+reported_as number run = record { number = number; chain = run.chain; leg = run.leg; end = run.end }
 
 -- what is written of these legs
 unfoldable pub legs_text : LeagueData → Measure → List LegRun → List ℕ
 legs_text league unit [] = []
 legs_text league unit (run ∷ before) =
-    legs_text league unit before ++ leg_text league unit (told_as (length before + 1) run) (least_told league before) run.history
+    legs_text league unit before ++ leg_text league unit (reported_as (length before + 1) run) (least_reported league before) run.history
 
 -- and once they are all: how often what is hard is broken in the chains if none met a feasible schedule, and what an improvement ends with, of
 -- the history that all legs together come to

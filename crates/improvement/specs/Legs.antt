@@ -66,26 +66,26 @@ lesser (Some a) None = Some a
 lesser (Some a) (Some b) = Some (min a b)
 
 -- the least total in all these legs
-abbrev pub least_told : LeagueData → List LegRun → Option ℕ
-least_told league [] = None
-least_told league (run ∷ before) = lesser (least_told league before) (least_in league run.history)
+abbrev pub least_reported : LeagueData → List LegRun → Option ℕ
+least_reported league [] = None
+least_reported league (run ∷ before) = lesser (least_reported league before) (least_in league run.history)
 
 abbrev pub standing_of : LeagueData → List Entry → Standing
 standing_of league h = record { best = least_in league h; hard = (cost_at league h).hard }
 
 -- whether the first is better: it has a lesser total, or the other has none, or neither has one and it has fewer breaches of hard limits
-abbrev pub leads_by : Option ℕ → Option ℕ → Bool → Bool
-leads_by (Some x) (Some y) fewer = nat_lt x y
-leads_by (Some x) None fewer = true
-leads_by None (Some y) fewer = false
-leads_by None None fewer = fewer
+abbrev pub improves_by : Option ℕ → Option ℕ → Bool → Bool
+improves_by (Some x) (Some y) fewer = nat_lt x y
+improves_by (Some x) None fewer = true
+improves_by None (Some y) fewer = false
+improves_by None None fewer = fewer
 
-unfoldable pub leads : Standing → Standing → Bool
-leads a b = leads_by a.best b.best (nat_lt a.hard b.hard)
+unfoldable pub improves : Standing → Standing → Bool
+improves a b = improves_by a.best b.best (nat_lt a.hard b.hard)
 
 -- the second history, up to its best version if it has one, if it is better than the first
 abbrev pub ahead : LeagueData → List Entry → List Entry → List Entry
-ahead league leading h = if leads (standing_of league h) (standing_of league leading) then rewound league h else leading
+ahead league leading h = if improves (standing_of league h) (standing_of league leading) then rewound league h else leading
 
 -- the history that all legs together come to: of those that they ended with the first that no other is better than
 unfoldable pub lead_of : LeagueData → List LegRun → List Entry

@@ -22,7 +22,7 @@ pub record AreAll (plan : ImprovePlan) (legs : List LegRun) : Type 0 where
   pub few : steps_in legs ≤ plan.effort
   pub all : plan.first ≡ None → steps_in legs ≡ plan.effort
 
--- The text of an improvement, of all its legs, and the best version of the history in it. Temperatures are told by the league's unit. The
+-- The text of an improvement, of all its legs, and the best version of the history in it. Temperatures are reported by the league's unit. The
 -- history fits the greatest room of a board and, given as a script in any room that it fits, leads to the same games and the same best
 pub record IsImproveText (league : LeagueData) (plan : ImprovePlan) (best : Option Best) (text : List ℕ) : Type 0 where
   pub unit : Measure
@@ -56,7 +56,7 @@ pub record AreLegTexts (league : LeagueData) (plan : ImprovePlan) (text : List �
 -- For a sink with these bytes held and these calls
 module _ {W : Type 0} (held : W → Option (List ℕ)) (pushes : W → Tally) (league : LeagueData) (plan : ImprovePlan) (before after : W) where
   -- The text went out whole on success, and a prefix of it before a failed write. Where memory ran out exactly the texts of the legs
-  -- that had been told went out, or nothing before the first one, and nothing if the number of workers is wrong
+  -- that had been reported went out, or nothing before the first one, and nothing if the number of workers is wrong
   abbrev pub Improves : Result (Option Best) ImproveFault → Type 0
   Improves (Ok best) = IsWorkers plan × (text : List ℕ) × IsImproveText league plan best text × Appends (held before) (held after) text
   Improves (Err Workers) = (¬ IsWorkers plan) × (after ≡ before)

@@ -6,7 +6,7 @@ use Rattle.fixtures.specs.Games.{Games}
 use Rattle.fixture_board.specs.declared.change.Entry.{Entry}
 use Rattle.fixture_board.specs.History.{best_prefix}
 use Rattle.texts.specs.SearchText.{games_at_best}
-use Rattle.improvement.specs.Legs.{LegRun, least_in, least_told}
+use Rattle.improvement.specs.Legs.{LegRun, least_in, least_reported}
 
 -- a schedule that is written, and the total behind it
 pub record Solution : Type 0 where
@@ -35,4 +35,4 @@ below least (Some s) = if is_below s.total least then Some s else None
 unfoldable pub solutions_of : LeagueData → List LegRun → List Solution
 solutions_of league [] = []
 solutions_of league (run ∷ before) =
-    cons_option (below (least_told league before) (best_solution league run.history)) (solutions_of league before)
+    cons_option (below (least_reported league before) (best_solution league run.history)) (solutions_of league before)

@@ -1,30 +1,30 @@
--- What who looks on is told of a leg, and what stands at the sink then.
+-- The report on a leg that a watcher gets, and what stands at the sink then.
 use Rattle.std.specs.Prelude.{◌≡◌, ℕ, ◌+◌, ◌==◌, ◌||◌, Bool, if◌then◌else◌, List, [], ◌∷◌, length, Option, Some, None}
 use Rattle.std.specs.Io.KnownBytes.{Appends}
 use Rattle.league.specs.League.{LeagueData}
 use Rattle.fixture_board.specs.declared.change.Entry.{Entry}
 use Rattle.fixture_board.specs.Record.{Book, book}
-use Rattle.improvement.specs.declared.leg_text.LegTold.{LegTold}
+use Rattle.improvement.specs.declared.leg_text.ReportedLeg.{ReportedLeg}
 use Rattle.improvement.specs.declared.watcher.LegEnded.{LegEnded}
 use Rattle.improvement.specs.declared.watcher.Written.{Written}
-use Rattle.improvement.specs.Legs.{LegRun, lead_of, leads, least_told, room_of, standing_of}
-use Rattle.improvement.specs.LegText.{told_as}
+use Rattle.improvement.specs.Legs.{LegRun, improves, lead_of, least_reported, room_of, standing_of}
+use Rattle.improvement.specs.LegText.{reported_as}
 use Rattle.improvement.specs.Outcome.{AreLegTexts}
 
-abbrev pub ended_as : LegTold → Option ℕ → LegEnded
-ended_as told least = record {
-  number = told.number;
-  chain = told.chain;
-  steps = told.end.steps;
-  accepted = told.end.accepted;
-  hard = told.end.hard;
-  best = told.end.best;
+abbrev pub ended_as : ReportedLeg → Option ℕ → LegEnded
+ended_as reported least = record {
+  number = reported.number;
+  chain = reported.chain;
+  steps = reported.end.steps;
+  accepted = reported.end.accepted;
+  hard = reported.end.hard;
+  best = reported.end.best;
   least = least;
 }
 
 -- whether the second history leads after so many legs of which the first one led: it is the first leg's, or better
 abbrev pub takes_lead : LeagueData → ℕ → List Entry → List Entry → Bool
-takes_lead league told leading h = told == 0 || leads (standing_of league h) (standing_of league leading)
+takes_lead league reported leading h = reported == 0 || improves (standing_of league h) (standing_of league leading)
 
 -- a board with the history that leads, if this run after those before it changed that
 abbrev pub lead_shown : LeagueData → ℕ → LegRun → List LegRun → Option Book
@@ -32,14 +32,14 @@ lead_shown league room run before =
     if takes_lead league (length before) (lead_of league before) run.history
     then Some (book league room (lead_of league (run ∷ before))) else None
 
--- it is the newest of these legs that is told, with the board that it has to show
+-- it is the newest of these legs that is reported, with the board that it has to show
 abbrev pub IsNewest : LeagueData → ℕ → List LegRun → LegEnded → Option Book → Type 0
 IsNewest league room [] leg better = ⊥
 IsNewest league room (run ∷ before) leg better =
-    (leg ≡ ended_as (told_as (length before + 1) run) (least_told league (run ∷ before)))
+    (leg ≡ ended_as (reported_as (length before + 1) run) (least_reported league (run ∷ before)))
     × (better ≡ lead_shown league room run before)
 
--- Behind what the sink held when it was lent stand the lines of all legs so far, whole, and nothing else. The leg that is told is the newest
+-- Behind what the sink held when it was lent stand the lines of all legs so far, whole, and nothing else. The leg that is reported is the newest
 -- of them
 pub record HasLines {W : Type 0} (held : W → Option (List ℕ)) (written : Written W) (leg : LegEnded) (better : Option Book) : Type 0 where
   pub text : List ℕ

@@ -9,7 +9,7 @@ ghost use Rattle.improvement.specs.within.Broken.{IsPartOf};
 ghost use Rattle.improvement.specs.within.Chains.{IsInLeague};
 
 use crate::chains::Chains;
-use crate::told::Told;
+use crate::reported::Reported;
 use costs::counted_repeats;
 use fixtures::Schedule;
 use league::{League, Weight};
@@ -79,15 +79,15 @@ fn hard_breaches(league: &League, i: u8, schedule: &Schedule) -> u64
 /// Writes how often each part is broken in the chains' best schedules, unless one of them is feasible.
 pub(crate) fn write_broken<W: Sink>(
     out: &mut BufferedSink<'_, W>,
-    told: &Told,
+    reported: &Reported,
 ) -> Result<(), WriteFault>
-    requires { All (IsInLeague told.now.lead.league) told.now.chains.bests.items }
+    requires { All (IsInLeague reported.now.lead.league) reported.now.chains.bests.items }
     ensures { Writes W.held W.tally out.old out.new result
-        (broken_if told.now.least told.now.lead.league told.now.chains.bests.items) }
+        (broken_if reported.now.least reported.now.lead.league reported.now.chains.bests.items) }
 {
-    match told.least {
+    match reported.least {
         Some(_) => Ok(()),
-        None => write_lines(out, told.lead.league(), &told.chains),
+        None => write_lines(out, reported.lead.league(), &reported.chains),
     }
 }
 

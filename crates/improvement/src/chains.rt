@@ -4,7 +4,7 @@ ghost use Rattle.std.specs.Prelude.{◌≡◌, [], IfOk, OnOk};
 ghost use Rattle.std.specs.List.{position_or_len};
 ghost use Rattle.fixture_board.specs.History.{best_prefix};
 ghost use Rattle.texts.specs.SearchText.{games_at_best};
-ghost use Rattle.improvement.specs.Chains.{is_of, meeting, reached};
+ghost use Rattle.improvement.specs.Chains.{is_of, offered, reached};
 
 use crate::standing::Standing;
 use fixture_board::Board;
@@ -60,19 +60,19 @@ impl Chains {
     }
 
     /// Takes in what a leg of a chain came to that ended with this board.
-    pub(crate) fn meet(
+    pub(crate) fn offer(
         &mut self,
         alloc: Global,
         chain: u64,
         board: &Board,
     ) -> Result<(), AllocError>
         ensures { OnOk result (self.new.bests.items ≡
-            meeting (reached chain board.now.league board.now.history) self.old.bests.items) }
+            offered (reached chain board.now.league board.now.history) self.old.bests.items) }
     {
         let place = self.place_of(chain);
         if place == self.bests.len() {
             self.bests.push(ChainBest::reached(alloc, chain, board)?)?;
-        } else if Standing::of(board).leads(self.bests[place].standing) {
+        } else if Standing::of(board).improves(self.bests[place].standing) {
             self.bests[place] = ChainBest::reached(alloc, chain, board)?;
         }
         Ok(())

@@ -48,7 +48,7 @@ impl Field {
         let standing = Standing::of(&entrant.chain.board);
         self.entrants
             .iter()
-            .position(|other| standing.leads(Standing::of(&other.chain.board)))
+            .position(|other| standing.improves(Standing::of(&other.chain.board)))
             .unwrap_or(self.entrants.len())
     }
 

@@ -15,18 +15,18 @@ ghost use Rattle.improvement.specs.within.UnderWay.{EndsBy, HasRunAll, HasWritte
 use crate::broken::write_broken;
 use crate::chains::Chains;
 use crate::field::Entrant;
-use crate::leg_text::{LegTold, write_leg};
+use crate::leg_text::{ReportedLeg, write_leg};
 use crate::legs::RunningLeg;
 use crate::line::Line;
 use crate::plan::{ImproveFault, ImprovePlan};
+use crate::reported::Reported;
 use crate::rounds::free_rounds;
 use crate::setting::{Setting, start_board};
-use crate::told::Told;
 use crate::watcher::{LegEnded, Watcher, Written};
 use annealing::{Annealed, measure};
 use fixture_board::Best;
 use league::League;
-use search::{Gate, MAX_WORKERS, Workplace};
+use search::{Gate, MAX_WORKERS, RunContext};
 use std::alloc::AllocError;
 use std::snapshot::Snapshot;
 use std::sync::Wait;
@@ -36,10 +36,10 @@ use streams::{BufferedSink, Sink};
 use texts::write_improved;
 
 /// Runs the legs of the policy on chains of the league, and writes each better schedule as soon as it is known. The legs pass the
-/// workplace's gate, which is told how far they are. The watcher is told of each leg that has ended. Answers with the best version of the
-/// history that was written in the end.
+/// run context's gate, and report to it how far they are. Each leg that has ended is reported to the watcher. Answers with the best version of
+/// the history that was written in the end.
 pub fn improve<T: Threads + Wait + Sync, G: Gate + Sync, W: Sink, V: Watcher<W> + Drop>(
-    workplace: Workplace<'_, T, G>,
+    run_context: RunContext<'_, T, G>,
     league: League,
     plan: ImprovePlan,
     sink: &mut W,
@@ -52,11 +52,11 @@ pub fn improve<T: Threads + Wait + Sync, G: Gate + Sync, W: Sink, V: Watcher<W> 
     if plan.workers < 1 || MAX_WORKERS < plan.workers {
         return Err(ImproveFault::Workers);
     }
-    let unit = measure(workplace.alloc, &league)?;
-    let start = start_board(workplace.alloc, league, plan.effort)?;
-    let rounds = free_rounds(workplace.alloc, &start)?;
+    let unit = measure(run_context.alloc, &league)?;
+    let start = start_board(run_context.alloc, league, plan.effort)?;
+    let rounds = free_rounds(run_context.alloc, &start)?;
     let setting = Setting {
-        workplace,
+        run_context,
         plan,
         unit,
         rounds: &rounds,
@@ -80,7 +80,7 @@ fn in_scope<'w, T: Threads + Wait + Sync, G: Gate + Sync, W: Sink, V: Watcher<W>
 {
     thread::scope(
         thread::scope_env(),
-        setting.workplace.rt,
+        setting.run_context.rt,
         move |scope| -> (Result<Option<Best>, ImproveFault>, &mut W)
             requires setting { IsSetting setting.now }
             ensures same { result.1.ghost_name ≡ sink.entry.ghost_name }
@@ -121,11 +121,11 @@ fn run_and_write<'s, E, T: Threads + Wait + Sync, G: Gate + Sync, W: Sink, V: Wa
     ensures { EndsBy W.held W.tally setting.entry.start.now setting.entry.unit setting.entry.plan out.old out.new
         (HasWritten W.held W.tally setting.entry.start.now setting.entry.unit setting.entry.plan out.old out.new) result }
 {
-    let told = run_all(scope, setting, out, watcher)?;
-    write_broken(out, &told)?;
-    write_improved(out, &told.lead)?;
+    let reported = run_all(scope, setting, out, watcher)?;
+    write_broken(out, &reported)?;
+    write_improved(out, &reported.lead)?;
     out.flush()?;
-    Ok(told.lead.best())
+    Ok(reported.lead.best())
 }
 
 /// Runs all legs, and writes what each comes to as it has ended.
@@ -134,25 +134,25 @@ fn run_all<'s, E, T: Threads + Wait + Sync, G: Gate + Sync, W: Sink, V: Watcher<
     setting: Setting<'s, T, G>,
     out: &mut BufferedSink<'_, W>,
     watcher: &mut V,
-) -> Result<Told, ImproveFault>
+) -> Result<Reported, ImproveFault>
     requires setting { IsSetting setting }
     requires none { waiting_in out.old ≡ [] }
     ensures { EndsBy W.held W.tally setting.entry.start.now setting.entry.unit setting.entry.plan out.old out.new
         (HasRunAll W.held W.tally setting.entry.start.now setting.entry.unit setting.entry.plan out.old out.new) result }
 {
-    setting.workplace.gate.begun(setting.workplace.rt, 0);
+    setting.run_context.gate.begun(setting.run_context.rt, 0);
     let lent = Snapshot::of(&*out);
     let mut line = Line::new(&setting);
-    let mut told = Told {
+    let mut reported = Reported {
         lead: setting.board_or_new(None)?,
         least: None,
         legs: 0,
-        chains: Chains::new(setting.workplace.alloc),
+        chains: Chains::new(setting.run_context.alloc),
     };
     while let Some(leg) = next_leg(scope, setting, &mut line, watcher)? {
-        tell(setting, leg, &mut line, &mut told, &lent, out, watcher)?;
+        report_leg(setting, leg, &mut line, &mut reported, &lent, out, watcher)?;
     }
-    Ok(told)
+    Ok(reported)
 }
 
 /// Takes the next leg out of the line, unless there is none. If several improvements share their steps, and the watcher wants no more, none
@@ -179,12 +179,12 @@ fn next_leg<'s, E, T: Threads + Wait + Sync, G: Gate + Sync, W: Sink, V: Watcher
     line.next(scope, setting)
 }
 
-/// Waits for a leg's end, writes what it came to, tells the watcher, and has the leg's chain go on.
-fn tell<'w, T: Threads + Wait + Sync, G: Gate + Sync, W: Sink, V: Watcher<W>>(
+/// Waits for a leg's end, writes what it came to, reports it to the watcher, and has the leg's chain go on.
+fn report_leg<'w, T: Threads + Wait + Sync, G: Gate + Sync, W: Sink, V: Watcher<W>>(
     setting: Setting<'_, T, G>,
     leg: RunningLeg,
     line: &mut Line,
-    told: &mut Told,
+    reported: &mut Reported,
     lent: &Snapshot<BufferedSink<'w, W>>,
     out: &mut BufferedSink<'w, W>,
     watcher: &mut V,
@@ -192,26 +192,26 @@ fn tell<'w, T: Threads + Wait + Sync, G: Gate + Sync, W: Sink, V: Watcher<W>>(
     requires setting { IsSetting setting }
     requires none { waiting_in lent.now.value ≡ [] }
     requires under_way { IsUnderWay W.held W.tally setting.start.now setting.unit setting.plan
-        lent.now.value out.old (leg ∷ []) line.old told.old }
+        lent.now.value out.old (leg ∷ []) line.old reported.old }
     ensures under_way { (first : BufferedSink W) → IsUnderWay W.held W.tally setting.entry.start.now setting.entry.unit setting.entry.plan
-        first out.old (leg ∷ []) line.old told.old →
+        first out.old (leg ∷ []) line.old reported.old →
         EndsBy W.held W.tally setting.entry.start.now setting.entry.unit setting.entry.plan first out.new
         (λ done. IsUnderWay W.held W.tally setting.entry.start.now setting.entry.unit setting.entry.plan first out.new []
-        line.new told.new) result }
+        line.new reported.new) result }
     ensures fewer { OnOk result (left_in line.new < turn_steps leg.turn + left_in line.old) }
 {
-    let workplace = setting.workplace;
+    let run_context = setting.run_context;
     let RunningLeg { turn, state } = leg;
-    let Annealed { chain, end } = state.outcome(workplace.rt)?;
-    workplace.gate.ended(workplace.rt);
-    let ended = LegTold {
-        number: told.legs + 1,
+    let Annealed { chain, end } = state.outcome(run_context.rt)?;
+    run_context.gate.ended(run_context.rt);
+    let ended = ReportedLeg {
+        number: reported.legs + 1,
         chain: turn.chain,
         leg: turn.leg,
         end,
     };
-    write_leg(out, setting.unit, ended, told.least, &chain.board)?;
-    let leads = told.meet(workplace.alloc, turn.chain, &chain.board)?;
+    write_leg(out, setting.unit, ended, reported.least, &chain.board)?;
+    let improves = reported.offer(run_context.alloc, turn.chain, &chain.board)?;
     let written = Written {
         league: setting.start.league(),
         plan: setting.plan,
@@ -219,11 +219,11 @@ fn tell<'w, T: Threads + Wait + Sync, G: Gate + Sync, W: Sink, V: Watcher<W>>(
         now: Snapshot::of(&*out),
     };
     watcher.leg_ended(
-        LegEnded::of(ended, told.least),
-        told.lead_if(leads),
+        LegEnded::of(ended, reported.least),
+        reported.lead_if(improves),
         written,
     );
-    workplace.gate.begun(workplace.rt, 0);
+    run_context.gate.begun(run_context.rt, 0);
     let number = turn.chain;
     line.go_on(turn, end, Entrant { number, chain })?;
     Ok(())

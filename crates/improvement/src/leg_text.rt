@@ -16,7 +16,7 @@ use texts::{Piece, write_best_sheet, write_pieces};
 
 /// A leg that has ended.
 #[derive(Clone, Copy)]
-pub(crate) struct LegTold {
+pub(crate) struct ReportedLeg {
     /// Its own number, from 1.
     pub(crate) number: u64,
     pub(crate) chain: u64,
@@ -28,15 +28,15 @@ pub(crate) struct LegTold {
 pub(crate) fn write_leg<W: Sink>(
     out: &mut BufferedSink<'_, W>,
     unit: Unit,
-    told: LegTold,
+    reported: ReportedLeg,
     least: Option<u64>,
     board: &Board,
 ) -> Result<(), WriteFault>
     ensures writes { Writes W.held W.tally out.old out.new result
-        (leg_text board.now.league unit told least board.now.history) }
+        (leg_text board.now.league unit reported least board.now.history) }
     ensures sent { OnOk result (waiting_in out.new ≡ []) }
 {
-    write_line(out, unit, told)?;
+    write_line(out, unit, reported)?;
     write_solution(out, least, board)?;
     out.flush()
 }
@@ -44,16 +44,16 @@ pub(crate) fn write_leg<W: Sink>(
 fn write_line<W: Sink>(
     out: &mut BufferedSink<'_, W>,
     unit: Unit,
-    told: LegTold,
+    reported: ReportedLeg,
 ) -> Result<(), WriteFault>
-    ensures { Writes W.held W.tally out.old out.new result (leg_line unit told) }
+    ensures { Writes W.held W.tally out.old out.new result (leg_line unit reported) }
 {
-    let LegTold {
+    let ReportedLeg {
         number,
         chain,
         leg,
         end,
-    } = told;
+    } = reported;
     let from = in_thousandths(unit, first_heat(leg.course));
     let to = in_thousandths(unit, last_heat(leg.course, end));
     write_pieces(

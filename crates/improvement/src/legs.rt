@@ -14,7 +14,7 @@ use crate::setting::Setting;
 use annealing::{Annealed, Chain, Conditions, LegPlan, anneal};
 use fixture_board::Board;
 use policy::{Leg, WeightCourse};
-use search::{Gate, Workplace};
+use search::{Gate, RunContext};
 use std::alloc::AllocError;
 use std::snapshot::Snapshot;
 use std::sync::Wait;
@@ -127,7 +127,7 @@ fn run<'s, E, T: Threads + Wait + Sync, G: Gate + Sync>(
     requires rounds { AreRoundsOf (teams chain.board.league) setting.rounds.now }
     ensures { IsState (IsAnnealed weights plan.leg chain) result }
 {
-    let Workplace { rt, alloc, gate } = setting.workplace;
+    let RunContext { rt, alloc, gate } = setting.run_context;
     let Setting { unit, rounds, .. } = setting;
     if setting.plan.workers == 1 {
         let conditions = Conditions {
@@ -135,7 +135,7 @@ fn run<'s, E, T: Threads + Wait + Sync, G: Gate + Sync>(
             rounds,
             weights,
         };
-        return LegState::Over(anneal(setting.workplace, conditions, chain, plan));
+        return LegState::Over(anneal(setting.run_context, conditions, chain, plan));
     }
     let given = Given {
         weights,
@@ -156,7 +156,7 @@ fn run<'s, E, T: Threads + Wait + Sync, G: Gate + Sync>(
                 rounds,
                 weights,
             };
-            anneal(Workplace { rt, alloc, gate }, conditions, chain, plan)
+            anneal(RunContext { rt, alloc, gate }, conditions, chain, plan)
         },
     ) {
         Ok(handle) => LegState::InThread(handle),

@@ -13,12 +13,12 @@ mod leg_text;
 mod legs;
 mod line;
 mod plan;
+mod reported;
 mod rounds;
 mod series;
 mod setting;
 mod stage;
 mod standing;
-mod told;
 mod watcher;
 
 pub use improving::improve;

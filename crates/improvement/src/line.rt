@@ -56,7 +56,7 @@ impl Line {
         ensures left { left_in result ≡ setting.now.plan.effort }
         ensures aim { IsAimOf setting.now.start.now.league result.series.facts.aim }
     {
-        let alloc = setting.workplace.alloc;
+        let alloc = setting.run_context.alloc;
         let league = setting.start.league();
         let facts = Facts {
             teams: league.teams(),
@@ -89,7 +89,7 @@ impl Line {
         ensures left { IfOk result (λ r. IfSome r (λ leg. turn_steps leg.turn + left_in self.new ≡ left_in self.old)) }
         ensures none { IfOk result (λ r. IfNone r (left_in self.old ≡ 0)) }
     {
-        if !self.fill(setting.workplace.alloc)? {
+        if !self.fill(setting.run_context.alloc)? {
             return Ok(None);
         }
         self.run_first(scope, setting)?;

@@ -9,13 +9,13 @@ use crate::plan::ImprovePlan;
 use annealing::Unit;
 use fixture_board::{Board, MAX_ROOM};
 use league::League;
-use search::Workplace;
+use search::RunContext;
 use std::alloc::{AllocError, Global};
 
 /// The setting that all legs share.
 #[derive_where(Clone, Copy)]
 pub(crate) struct Setting<'a, T, G> {
-    pub(crate) workplace: Workplace<'a, T, G>,
+    pub(crate) run_context: RunContext<'a, T, G>,
     pub(crate) plan: ImprovePlan,
     pub(crate) unit: Unit,
     /// The rounds that a move may name.
@@ -31,7 +31,7 @@ impl<T, G> Setting<'_, T, G> {
     {
         match board {
             Some(board) => Ok(board),
-            None => self.start.anew(self.workplace.alloc),
+            None => self.start.anew(self.run_context.alloc),
         }
     }
 }

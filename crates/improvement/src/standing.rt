@@ -1,7 +1,7 @@
 //! How good a history is.
 
 ghost use Rattle.std.specs.Prelude.{◌≡◌};
-ghost use Rattle.improvement.specs.Legs.{leads, standing_of};
+ghost use Rattle.improvement.specs.Legs.{improves, standing_of};
 
 use fixture_board::Board;
 
@@ -25,9 +25,9 @@ impl Standing {
     }
 
     /// Tells whether this standing is better than the other.
-    #[tactic(auto, unfolding(crate::specs::Legs::leads))]
-    pub(crate) fn leads(self, other: Standing) -> bool
-        ensures { result ≡ leads self other }
+    #[tactic(auto, unfolding(crate::specs::Legs::improves))]
+    pub(crate) fn improves(self, other: Standing) -> bool
+        ensures { result ≡ improves self other }
     {
         match (self.best, other.best) {
             (Some(x), Some(y)) => x < y,

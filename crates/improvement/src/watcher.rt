@@ -3,7 +3,7 @@
 ghost use Rattle.std.specs.Prelude.{◌≡◌, option_map};
 ghost use Rattle.improvement.specs.Watched.{HasLines, ended_as};
 
-use crate::leg_text::LegTold;
+use crate::leg_text::ReportedLeg;
 use crate::plan::ImprovePlan;
 use fixture_board::Board;
 use league::League;
@@ -30,17 +30,17 @@ pub struct LegEnded {
 }
 
 impl LegEnded {
-    /// The leg as it is told, and the least total of all legs so far.
-    pub(crate) fn of(told: LegTold, least: Option<u64>) -> LegEnded
-        ensures { result ≡ ended_as told least }
+    /// The leg as it is reported, and the least total of all legs so far.
+    pub(crate) fn of(reported: ReportedLeg, least: Option<u64>) -> LegEnded
+        ensures { result ≡ ended_as reported least }
     {
         LegEnded {
-            number: told.number,
-            chain: told.chain,
-            steps: told.end.steps,
-            accepted: told.end.accepted,
-            hard: told.end.hard,
-            best: told.end.best,
+            number: reported.number,
+            chain: reported.chain,
+            steps: reported.end.steps,
+            accepted: reported.end.accepted,
+            hard: reported.end.hard,
+            best: reported.end.best,
             least,
         }
     }

@@ -10,7 +10,7 @@ ghost use Rattle.std.specs.Prelude.{◌≤◌};
 use fixture_board::Best;
 use improvement::{ImproveFault, ImprovePlan, NoWatcher, improve};
 use league::{League, circular, read_league};
-use search::{NoGate, Workplace};
+use search::{NoGate, RunContext};
 use std::alloc::{AllocError, Global};
 use std::fmt::Debug;
 use std::process::Abort;
@@ -70,8 +70,8 @@ fn improved_by<T: Threads + Wait + Sync>(
     let mut memory = MemorySink::new(&mut room);
     let mut sink = RehearsedSink::new(&mut memory, writes);
     let gate = &NoGate;
-    let workplace = Workplace { rt, alloc, gate };
-    let ended = improve(workplace, league, plan, &mut sink, NoWatcher);
+    let run_context = RunContext { rt, alloc, gate };
+    let ended = improve(run_context, league, plan, &mut sink, NoWatcher);
     let calls = sink.tally().calls;
     let text = Vec::from_slice(alloc, memory.held())?;
     Ok(Improved { ended, calls, text })

@@ -5,23 +5,23 @@
 //! Teams and rounds are numbered from 0. No call takes memory.
 #![tactic(auto)]
 
+mod applying;
 mod chains;
 mod changed_games;
-mod effects;
-mod exchange_of;
+mod checking;
 mod fault;
 mod laws;
 mod moves;
-mod refusals;
+mod resolving;
 
+pub use applying::{apply, touched};
 pub use chains::{moved_rounds, moved_teams};
 pub use changed_games::would_change;
-pub use effects::{apply, touched};
-pub use exchange_of::exchange;
+pub use checking::check;
 pub use fault::MoveFault;
 pub use laws::{
     differs_in_each_touched, differs_where_touched, moves_are_exchanges, moves_back,
     stays_double_round_robin,
 };
 pub use moves::{Move, MoveKind};
-pub use refusals::check;
+pub use resolving::exchange;

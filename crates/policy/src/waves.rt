@@ -90,7 +90,7 @@ impl Policy {
         }
     }
 
-    /// The next wave, once all legs of the wave before were told. There is none exactly if no steps are left.
+    /// The next wave, once all legs of the wave before were observed. There is none exactly if no steps are left.
     pub fn wave(&mut self) -> Option<Wave>
         ensures none { IsNone result ↔ (self.old.left ≡ 0) }
         ensures wave { IfSome result (IsNextWave self.old.field) }
@@ -131,7 +131,7 @@ impl Policy {
         ensures ends { leg ≢ (bout_of self.old.plan bout).first → result ≡ None }
         ensures plan { self.new.plan ≡ plan_after self.old.plan leg ended }
         ensures cools { IfSome result (λ next. DoesCool next.course) }
-        // so what a bout does is the same whether or not legs of the wave's other bouts were told
+        // so what a bout does is the same whether or not legs of the wave's other bouts were observed
         ensures stays { IsLegIn self.old.plan bout leg → (other : ℕ) → bout_of self.new.plan other ≡ bout_of self.old.plan other }
         ensures leg { IfSome result IsLeg }
         ensures left { self.new.left + steps_of result + ended.steps ≡ self.old.left + leg.steps }

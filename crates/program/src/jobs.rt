@@ -12,8 +12,8 @@ use crate::timed::Timed;
 use command_line::Job;
 use commands::{
     Beginning, Extent, Gate, ImprovePlan, MOST_EFFORT, NoGate, ProgramFault, ProgressLine,
-    SearchEnd, Sink, Terms, Verdict, Watcher, Workplace, find_on, improve_on, league_on, play_on,
-    report_on, start_on,
+    RunContext, SearchEnd, Settings, Sink, Verdict, Watcher, find_on, improve_on, league_on,
+    play_on, report_on, start_on,
 };
 use std::alloc::Global;
 use std::io::Write;
@@ -90,11 +90,11 @@ pub(crate) fn perform<
     match terminal {
         Some(terminal) => {
             let gate = &ProgressLine::over(rt, WriterSink::new(terminal), extent_of(job));
-            perform_at(Workplace { rt, alloc, gate }, job, texts, sink, watcher)
+            perform_at(RunContext { rt, alloc, gate }, job, texts, sink, watcher)
         }
         None => {
             let gate = &NoGate;
-            perform_at(Workplace { rt, alloc, gate }, job, texts, sink, watcher)
+            perform_at(RunContext { rt, alloc, gate }, job, texts, sink, watcher)
         }
     }
 }
@@ -115,9 +115,9 @@ fn extent_of(job: Job) -> Extent {
     }
 }
 
-/// As [`perform`]. The workers pass the workplace's gate.
+/// As [`perform`]. The workers pass the run context's gate.
 fn perform_at<T: Threads + Wait + Clock + Sync, G: Gate + Sync, W: Sink, V: Watcher<W>>(
-    workplace: Workplace<'_, T, G>,
+    run_context: RunContext<'_, T, G>,
     job: Job,
     texts: &Texts<'_, '_>,
     sink: &mut W,
@@ -129,7 +129,7 @@ fn perform_at<T: Threads + Wait + Clock + Sync, G: Gate + Sync, W: Sink, V: Watc
     ensures { Performs W.held W.tally texts.now.input.now (option_map (λ text. text.now) texts.now.second) texts.now.beginning
         (option_map (λ title. title.now) texts.now.title) job sink.old sink.new result }
 {
-    let alloc = workplace.alloc;
+    let alloc = run_context.alloc;
     let Texts {
         input,
         second,
@@ -151,11 +151,11 @@ fn perform_at<T: Threads + Wait + Clock + Sync, G: Gate + Sync, W: Sink, V: Watc
             seconds,
         } => {
             let plan = plan_of(workers, seed, effort, seconds);
-            let timed = Timed::new(workplace.rt, seconds.unwrap_or(0), watcher);
-            with_verdict(improve_on(workplace, input, beginning, sink, plan, timed))
+            let timed = Timed::new(run_context.rt, seconds.unwrap_or(0), watcher);
+            with_verdict(improve_on(run_context, input, beginning, sink, plan, timed))
         }
         Job::Find { room, plan } => {
-            with_search_end(find_on(workplace, input, beginning, sink, room, plan))
+            with_search_end(find_on(run_context, input, beginning, sink, room, plan))
         }
         Job::Report(format) => {
             let (league, sheet) = parts(input, *second, b"sheet");
@@ -166,12 +166,12 @@ fn perform_at<T: Threads + Wait + Clock + Sync, G: Gate + Sync, W: Sink, V: Watc
             at_most,
             hard_weight,
         } => {
-            let terms = Terms {
+            let settings = Settings {
                 title: *title,
                 at_most,
                 hard_weight,
             };
-            with_rounded(league_on(alloc, input, sink, choice, terms))
+            with_rounded(league_on(alloc, input, sink, choice, settings))
         }
     }
 }

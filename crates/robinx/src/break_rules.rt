@@ -12,8 +12,8 @@ ghost use Rattle.robinx.specs.Deviations.{breaks, deviation};
 ghost use Rattle.robinx.specs.Touches.{has_touched_team};
 ghost use Rattle.robinx.specs.within.Walked.{breaks_together};
 
-use crate::counts::over;
-use crate::guests::Around;
+use crate::around::Around;
+use crate::counted_games::over;
 use crate::windows::before;
 use fixtures::Schedule;
 use league::limits::MAX_ROUNDS;

@@ -10,12 +10,12 @@ ghost use Rattle.robinx.specs.Deviations.{over, games_in_round, deviation};
 ghost use Rattle.robinx.specs.Parts.{over_in_met_windows, changing_terms};
 ghost use Rattle.robinx.specs.within.Walked.{over_from_starts};
 
-use crate::counted_rows::rows_near;
-use crate::counts::{
+use crate::around::{Around, teams_otherwise};
+use crate::counted_games::{
     Capacity, CountedGames, counted_rounds, games_in_round, games_of_team, games_on_side,
     number_of, over, rounds_on_side,
 };
-use crate::guests::{Around, teams_otherwise};
+use crate::counted_rows::rows_near;
 use crate::round_numbers::RoundNumbers;
 use crate::team_windows::over_in_rows;
 use crate::windows::over_in_windows_of;

@@ -7,7 +7,7 @@ ghost use Rattle.fixtures.specs.Games.{round_count, cell, IsDoubleRoundRobin};
 ghost use Rattle.robinx.specs.Deviations.{is_on_side, is_counted};
 ghost use Rattle.robinx.specs.within.Walked.{HaveCounted};
 
-use crate::counts::{CountedGames, is_on_side};
+use crate::counted_games::{CountedGames, is_on_side};
 use fixtures::Schedule;
 use league::limits::MAX_ROUNDS;
 use league::{SlotSet, TeamSet};

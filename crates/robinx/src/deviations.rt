@@ -7,7 +7,7 @@ ghost use Rattle.robinx.specs.Deviations.{deviation};
 
 use crate::break_rules::{br1, br2};
 use crate::capacity_rules::{ca2, ca3, ca4};
-use crate::counts::{Capacity, CountedGames};
+use crate::counted_games::{Capacity, CountedGames};
 use crate::fairness_rules::{Fairness, fa2};
 use crate::game_rules::ga1;
 use crate::separation_rules::se1;

@@ -7,8 +7,8 @@ ghost use Rattle.fixtures.specs.Games.{round_count, IsDoubleRoundRobin};
 ghost use Rattle.robinx.specs.Deviations.{deviation};
 ghost use Rattle.robinx.specs.Touches.{has_touched_team};
 
+use crate::around::Around;
 use crate::gap_table::GapTable;
-use crate::guests::Around;
 use crate::kept_gaps::KeptGaps;
 use fixtures::Schedule;
 use league::{SlotSet, TeamSet};

@@ -9,8 +9,8 @@ ghost use Rattle.fixtures.specs.Games.{round_of, IsPair};
 ghost use Rattle.robinx.specs.Deviations.{listed_games_in, deviation};
 ghost use Rattle.robinx.specs.Parts.{has_moved_game};
 
-use crate::counts::over;
-use crate::guests::Around;
+use crate::around::Around;
+use crate::counted_games::over;
 use fixtures::Schedule;
 use league::{GameList, Pairing, SlotSet};
 

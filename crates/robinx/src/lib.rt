@@ -4,19 +4,20 @@
 //! Teams and rounds are numbered from 0. Nothing here takes memory.
 #![tactic(auto)]
 
+mod around;
 mod break_rules;
 mod capacity_rules;
+mod counted_games;
 mod counted_rows;
-mod counts;
 mod deviations;
 mod fairness_rules;
 mod game_rules;
 mod gap_table;
 mod gaps;
-mod guests;
 mod home_rows;
 mod kept_gaps;
 mod laws;
+mod looked_past;
 mod pairs;
 mod parts;
 mod round_numbers;
@@ -24,7 +25,6 @@ mod separation_rules;
 mod table_pairs;
 mod team_windows;
 mod touched_rules;
-mod unaffected_rules;
 mod windows;
 
 pub use break_rules::breaks;
@@ -32,6 +32,6 @@ pub use deviations::deviation;
 pub use fairness_rules::Fairness;
 pub use kept_gaps::{KeptGaps, turned_within};
 pub use laws::{deviations_balance, nothing_to_alter, untouched_stays};
+pub use looked_past::looks_past;
 pub use parts::deviation_part;
 pub use touched_rules::{looks_at_round, touches};
-pub use unaffected_rules::looks_past;

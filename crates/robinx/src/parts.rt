@@ -9,13 +9,13 @@ ghost use Rattle.robinx.specs.Deviations.{deviation};
 ghost use Rattle.robinx.specs.Parts.{counts_otherwise, changing_terms, deviation_part};
 ghost use Rattle.robinx.specs.within.Walked.{counted_of};
 
+use crate::around::{Around, teams_otherwise};
 use crate::break_rules::{br1, br2_part};
 use crate::capacity_rules::{WindowRule, ca2, ca4_part, met_windows};
-use crate::counts::{Capacity, CountedGames};
+use crate::counted_games::{Capacity, CountedGames};
 use crate::deviations::deviation;
 use crate::fairness_rules::{Fairness, fa2_part};
 use crate::game_rules::has_moved_game;
-use crate::guests::{Around, teams_otherwise};
 use crate::kept_gaps::KeptGaps;
 use crate::separation_rules::se1_part;
 use crate::touched_rules::can_alter;

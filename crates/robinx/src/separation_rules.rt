@@ -10,8 +10,8 @@ ghost use Rattle.robinx.specs.Deviations.{over, rounds_between, deviation};
 ghost use Rattle.robinx.specs.Parts.{changing_terms};
 ghost use Rattle.robinx.specs.within.Walked.{counts_pair};
 
-use crate::counts::over;
-use crate::guests::{Around, opponents_in};
+use crate::around::{Around, opponents_in};
+use crate::counted_games::over;
 use fixtures::Schedule;
 use league::TeamSet;
 

@@ -7,7 +7,7 @@ ghost use Rattle.league.specs.Sums.{sum_below, sum_where, count_where};
 ghost use Rattle.robinx.specs.Deviations.{over};
 ghost use Rattle.robinx.specs.within.Walked.{lacks};
 
-use crate::counts::over;
+use crate::counted_games::over;
 use league::SlotSet;
 use league::limits::MAX_ROUNDS;
 

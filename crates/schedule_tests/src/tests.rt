@@ -1,20 +1,20 @@
 //! The tests by subject, and what they share.
 
 mod allocations;
+mod applying;
 mod chains;
 mod changed_games;
+mod checking;
 mod checks;
 mod costs;
 mod deviations;
 mod drafts;
-mod effects;
 mod exchanges;
 mod halves;
 mod home_games;
 mod moved_games;
 mod number_sets;
 mod parts;
-mod refusals;
 mod rule_leagues;
 mod rule_parts;
 mod rules_reached;

@@ -9,8 +9,8 @@ use Rattle.fixtures.specs.Games.{Games, round_of, IsCell, IsPair}
 use Rattle.fixtures.specs.Draft.{IsGame}
 use Rattle.fixtures.specs.within.Draft.{game_of}
 use Rattle.fixtures.proofs.ForCallers.{game_passes, pair_swapped}
-use Rattle.schedule_texts.specs.declared.counts.Counted.{Counted}
-use Rattle.schedule_texts.specs.declared.counts.Counted.TheVariants.{Rounds, Guests}
+use Rattle.schedule_texts.specs.declared.counted.Counted.{Counted}
+use Rattle.schedule_texts.specs.declared.counted.Counted.TheVariants.{Rounds, Guests}
 use Rattle.schedule_texts.specs.Faults.{games_in, games_of_pair, is_of_pair, is_of_team}
 use Rattle.schedule_texts.specs.within.Faults.{count_in, number_of, numbers, takes}
 

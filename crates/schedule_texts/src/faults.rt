@@ -12,7 +12,7 @@ ghost use Rattle.schedule_texts.specs.LastSheet.{last_sheet};
 ghost use Rattle.schedule_texts.specs.ScheduleText.{written_games};
 ghost use Rattle.streams.specs.Pieces.{pieces_below};
 
-use crate::counts::{Counted, counts_of};
+use crate::counted::{Counted, counts_of};
 use crate::last_sheet::LastSheet;
 use crate::schedule_text::{ScheduleLine, WrittenGame};
 use fixtures::Game;

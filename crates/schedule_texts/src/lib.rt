@@ -5,7 +5,7 @@
 //! rounds are numbered from 0 in calls, and from 1 in texts. Only [`judge`] takes memory.
 #![tactic(auto)]
 
-mod counts;
+mod counted;
 mod faults;
 mod judged;
 mod last_sheet;

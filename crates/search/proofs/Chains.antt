@@ -10,18 +10,18 @@ use mathlib.Core.Logic.{dite}
 use native.Mathlib.Decide.{ℕ_discrete}
 use Rattle.shared_board.specs.Seats.{BoardId, SeatValue, IsNew, given_at}
 use Rattle.shared_board.specs.Setting.{Setting}
-use Rattle.search.specs.declared.runs.threads.Job.{Job}
-use Rattle.search.specs.within.Crews.{IsFresh, IsJob, JobIn, job_number, job_worker}
+use Rattle.search.specs.declared.runs.threads.WorkerInput.{WorkerInput}
+use Rattle.search.specs.within.RunParts.{InputIn, IsFresh, IsWorkerInput, input_number, input_worker}
 
--- The seats of the jobs are fresh, and their numbers rise up to that of the run's own, which is fresh too. All have one
+-- The seats of the inputs are fresh, and their numbers rise up to that of the run's own, which is fresh too. All have one
 -- setting
-pub record IsChain (table : BoardId) (setting : Setting) (jobs : List Job) (seat : SeatValue) : Type 0 where
+pub record IsChain (table : BoardId) (setting : Setting) (inputs : List WorkerInput) (seat : SeatValue) : Type 0 where
   pub fresh : IsFresh table seat
   pub setting_is : seat.setting ≡ setting
-  pub jobs_are : All (IsJob table) jobs
-  pub rising : IsStrictlyIncreasing (map job_number jobs)
-  pub below : All (λ n. n < seat.number) (map job_number jobs)
-  pub in_setting : All (JobIn setting) jobs
+  pub inputs_are : All (IsWorkerInput table) inputs
+  pub rising : IsStrictlyIncreasing (map input_number inputs)
+  pub below : All (λ n. n < seat.number) (map input_number inputs)
+  pub in_setting : All (InputIn setting) inputs
 
 increasing_push : (ns : List ℕ) (n : ℕ) → IsStrictlyIncreasing ns → All (λ m. m < n) ns → IsStrictlyIncreasing (ns ++ n ∷ [])
 increasing_push ns n was below k within =
@@ -70,37 +70,37 @@ counted_last first (suc n) =
     let next : first + 1 + n ≡ first + suc n = omega arith in
     ap (λ l. first ∷ l) (counted_last (first + 1) n ∙ ap (λ k. range_with_len (first + 1) n ++ k ∷ []) next)
 
--- the workers of the jobs have numbers in a row, from 0, also with one more
-pub workers_more : (jobs jobs' : List Job) (job : Job) (n m : ℕ) → map job_worker jobs ≡ range_with_len 0 n →
-    jobs' ≡ jobs ++ job ∷ [] → job.worker ≡ n → m ≡ n + 1 → map job_worker jobs' ≡ range_with_len 0 m
-workers_more jobs jobs' job n m was items number more =
-    let here : job.worker ≡ 0 + n = omega (arith, number) in
+-- the workers of the inputs have numbers in a row, from 0, also with one more
+pub workers_more : (inputs inputs' : List WorkerInput) (input : WorkerInput) (n m : ℕ) → map input_worker inputs ≡ range_with_len 0 n →
+    inputs' ≡ inputs ++ input ∷ [] → input.worker ≡ n → m ≡ n + 1 → map input_worker inputs' ≡ range_with_len 0 m
+workers_more inputs inputs' input n m was items number more =
+    let here : input.worker ≡ 0 + n = omega (arith, number) in
     let count : suc n ≡ m = omega (arith, more) in
-    ap (map job_worker) items ∙ map-append job_worker jobs (job ∷ []) ∙ ap (λ ns. ns ++ job.worker ∷ []) was ∙
+    ap (map input_worker) items ∙ map-append input_worker inputs (input ∷ []) ∙ ap (λ ns. ns ++ input.worker ∷ []) was ∙
     ap (λ k. range_with_len 0 n ++ k ∷ []) here ∙ sym (counted_last 0 n) ∙ ap (range_with_len 0) count
 
--- one more job gets the seat, and the run the one that was split from it
-pub chain_more : (table : BoardId) (setting : Setting) (jobs jobs' : List Job) (job : Job) (a b own : SeatValue) →
-    IsChain table setting jobs a → IsNew a b → own ≡ b → jobs' ≡ jobs ++ job ∷ [] → job.seat ≡ given_at a (b.number + 1) →
-    IsChain table setting jobs' own
-chain_more table setting jobs jobs' job a b own was new own_is items given =
+-- one more input gets the seat, and the run the one that was split from it
+pub chain_more : (table : BoardId) (setting : Setting) (inputs inputs' : List WorkerInput) (input : WorkerInput) (a b own : SeatValue) →
+    IsChain table setting inputs a → IsNew a b → own ≡ b → inputs' ≡ inputs ++ input ∷ [] → input.seat ≡ given_at a (b.number + 1) →
+    IsChain table setting inputs' own
+chain_more table setting inputs inputs' input a b own was new own_is items given =
     let fresh = was.fresh in
     let later = new.later in
     let rises : a.number < b.number = omega (arith, fresh.given) in
-    let numbers : map job_number jobs' ≡ map job_number jobs ++ a.number ∷ [] =
-    ap (map job_number) items ∙ map-append job_number jobs (job ∷ []) ∙ ap (λ (s : SeatValue). map job_number jobs ++ s.number ∷ []) given
+    let numbers : map input_number inputs' ≡ map input_number inputs ++ a.number ∷ [] =
+    ap (map input_number) items ∙ map-append input_number inputs (input ∷ []) ∙ ap (λ (s : SeatValue). map input_number inputs ++ s.number ∷ []) given
     in
-    let P : SeatValue → Type 0 = λ s. IsChain table setting jobs' s in
+    let P : SeatValue → Type 0 = λ s. IsChain table setting inputs' s in
     let Rises : List ℕ → Type 0 = λ ns. IsStrictlyIncreasing ns in
     let Below : List ℕ → Type 0 = λ ns. All (λ n. n < b.number) ns in
     let Fresh : SeatValue → Type 0 = λ s. IsFresh table s in
     subst P (sym own_is) (record {
       fresh = fresh_next table a b was.fresh new;
       setting_is = ap (λ (s : SeatValue). s.setting) new.now ∙ was.setting_is;
-      jobs_are = All-same (IsJob table) jobs' (jobs ++ job ∷ []) items
-          (All-push (IsJob table) jobs job was.jobs_are (subst Fresh (sym given) (fresh_still table a b was.fresh new)));
-      rising = subst Rises (sym numbers) (increasing_push (map job_number jobs) a.number was.rising was.below);
-      below = subst Below (sym numbers) (below_push (map job_number jobs) a.number b.number was.below rises);
-      in_setting = All-same (JobIn setting) jobs' (jobs ++ job ∷ []) items
-          (All-push (JobIn setting) jobs job was.in_setting (ap (λ (s : SeatValue). s.setting) given ∙ was.setting_is));
+      inputs_are = All-same (IsWorkerInput table) inputs' (inputs ++ input ∷ []) items
+          (All-push (IsWorkerInput table) inputs input was.inputs_are (subst Fresh (sym given) (fresh_still table a b was.fresh new)));
+      rising = subst Rises (sym numbers) (increasing_push (map input_number inputs) a.number was.rising was.below);
+      below = subst Below (sym numbers) (below_push (map input_number inputs) a.number b.number was.below rises);
+      in_setting = All-same (InputIn setting) inputs' (inputs ++ input ∷ []) items
+          (All-push (InputIn setting) inputs input was.in_setting (ap (λ (s : SeatValue). s.setting) given ∙ was.setting_is));
     })

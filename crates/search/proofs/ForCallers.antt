@@ -1,3 +1,3 @@
 -- Lemmas for crates that stand on this one.
--- steps that were told add up
-pub use Rattle.search.proofs.Telling.{told_none, told_more}
+-- steps that were reported add up
+pub use Rattle.search.proofs.Reporting.{reported_none, reported_more}

@@ -8,7 +8,7 @@ use Rattle.search.specs.Doors.{done_count}
 use Rattle.search.specs.declared.workers.steps.StepResult.{StepResult}
 use Rattle.search.specs.declared.workers.steps.StepResult.TheVariants.{Nothing, Accepted, Refused, Full}
 use Rattle.search.specs.Heard.{AreHeard, HearsFull, IsFull, IsHeard}
-use Rattle.search.specs.within.Steps.{IsProposed, IsToldBy, accepted_count, report_with}
+use Rattle.search.specs.within.Steps.{IsProposed, IsResultOf, accepted_count, report_with}
 
 heard_last : (heard : ℕ → Reply → Type 0) (made at : ℕ) (rs : List Reply) (r : Reply) → AreHeard heard made rs →
     at ≡ made + length rs → heard at r → AreHeard heard made (rs ++ r ∷ [])
@@ -33,12 +33,12 @@ heard_more heard was is r before one made accepted =
 
 -- what the gate heard of a step: the reply to its proposal, where it made one
 abbrev pub HearsStep : (ℕ → Reply → Type 0) → ℕ → StepResult → Type 0
-HearsStep heard made told = IsProposed told → (reply : Reply) × heard made reply × IsToldBy reply told
+HearsStep heard made step_result = IsProposed step_result → (reply : Reply) × heard made reply × IsResultOf reply step_result
 
 -- a step accepts as many as its reply grants
-counts_told : (told : StepResult) (reply : Reply) → IsToldBy reply told → accepted_count told ≡ done_count reply
-counts_told told (Done at cost) is = ap accepted_count is
-counts_told told (No at reason) is = elim is [ inl full ↦ ap accepted_count full.1 | inr other ↦ ap accepted_count other.1 ]
+counts_result : (step_result : StepResult) (reply : Reply) → IsResultOf reply step_result → accepted_count step_result ≡ done_count reply
+counts_result step_result (Done at cost) is = ap accepted_count is
+counts_result step_result (No at reason) is = elim is [ inl full ↦ ap accepted_count full.1 | inr other ↦ ap accepted_count other.1 ]
 
 -- the step found the board full
 abbrev pub IsStopped : StepResult → Type 0
@@ -47,47 +47,47 @@ IsStopped (Accepted cost) = ⊥
 IsStopped Refused = ⊥
 IsStopped Full = Unit {0}
 
-full_reply : (told : StepResult) (reply : Reply) → IsToldBy reply told → IsStopped told → IsFull reply
-full_reply told (Done at cost) is stopped = let P : StepResult → Type 0 = λ t. IsStopped t in subst P is stopped
-full_reply told (No at reason) is stopped =
+full_reply : (step_result : StepResult) (reply : Reply) → IsResultOf reply step_result → IsStopped step_result → IsFull reply
+full_reply step_result (Done at cost) is stopped = let P : StepResult → Type 0 = λ t. IsStopped t in subst P is stopped
+full_reply step_result (No at reason) is stopped =
     let P : StepResult → Type 0 = λ t. IsStopped t in
     elim is [ inl full ↦ full.0 | inr other ↦ absurd (subst P other.1 stopped) ]
 
 -- a step that found the board full had such a reply
-pub hears_full : (heard : ℕ → Reply → Type 0) (made : ℕ) (told : StepResult) → told ≡ Full → HearsStep heard made told → HearsFull heard
-hears_full heard made told is more =
+pub hears_full : (heard : ℕ → Reply → Type 0) (made : ℕ) (step_result : StepResult) → step_result ≡ Full → HearsStep heard made step_result → HearsFull heard
+hears_full heard made step_result is more =
     let Proposed : StepResult → Type 0 = λ t. IsProposed t in
     let Stopped : StepResult → Type 0 = λ t. IsStopped t in
     let one = more (subst Proposed (sym is) tt) in
-    record { made = made; reply = one.0; is_heard = one.1; full = full_reply told one.0 one.2 (subst Stopped (sym is) tt) }
+    record { made = made; reply = one.0; is_heard = one.1; full = full_reply step_result one.0 one.2 (subst Stopped (sym is) tt) }
 
-heard_step : (heard : ℕ → Reply → Type 0) (r : Report) (told : StepResult) → IsHeard heard r → HearsStep heard r.made told →
-    IsHeard heard (report_with r told)
+heard_step : (heard : ℕ → Reply → Type 0) (r : Report) (step_result : StepResult) → IsHeard heard r → HearsStep heard r.made step_result →
+    IsHeard heard (report_with r step_result)
 heard_step heard r Nothing before more = before
 heard_step heard r (Accepted cost) before more =
-    let one = more tt in heard_more heard r (report_with r (Accepted cost)) one.0 before one.1 refl (omega (arith, counts_told (Accepted cost) one.0 one.2))
+    let one = more tt in heard_more heard r (report_with r (Accepted cost)) one.0 before one.1 refl (omega (arith, counts_result (Accepted cost) one.0 one.2))
 heard_step heard r Refused before more =
-    let one = more tt in heard_more heard r (report_with r Refused) one.0 before one.1 refl (omega (arith, counts_told Refused one.0 one.2))
+    let one = more tt in heard_more heard r (report_with r Refused) one.0 before one.1 refl (omega (arith, counts_result Refused one.0 one.2))
 heard_step heard r Full before more =
-    let one = more tt in heard_more heard r (report_with r Full) one.0 before one.1 refl (omega (arith, counts_told Full one.0 one.2))
+    let one = more tt in heard_more heard r (report_with r Full) one.0 before one.1 refl (omega (arith, counts_result Full one.0 one.2))
 
 -- the next report counts what was heard
-pub heard_next : (heard : ℕ → Reply → Type 0) (r next : Report) (told : StepResult) → next ≡ report_with r told → IsHeard heard r →
-    HearsStep heard r.made told → IsHeard heard next
-heard_next heard r next told is before more =
-    let P : Report → Type 0 = λ x. IsHeard heard x in subst P (sym is) (heard_step heard r told before more)
+pub heard_next : (heard : ℕ → Reply → Type 0) (r next : Report) (step_result : StepResult) → next ≡ report_with r step_result → IsHeard heard r →
+    HearsStep heard r.made step_result → IsHeard heard next
+heard_next heard r next step_result is before more =
+    let P : Report → Type 0 = λ x. IsHeard heard x in subst P (sym is) (heard_step heard r step_result before more)
 
 -- a step makes one proposal at most, and its report counts it once
-pub record CountsStep (r : Report) (told : StepResult) (next : Report) : Type 0 where
+pub record CountsStep (r : Report) (step_result : StepResult) (next : Report) : Type 0 where
   pub few : next.made ≤ r.made + 1
-  pub accepted : next.accepted ≡ r.accepted + accepted_count told
+  pub accepted : next.accepted ≡ r.accepted + accepted_count step_result
   pub whole : r.made ≡ r.accepted + r.refused → next.made ≡ next.accepted + next.refused
 
-counts_step : (r : Report) (told : StepResult) → CountsStep r told (report_with r told)
+counts_step : (r : Report) (step_result : StepResult) → CountsStep r step_result (report_with r step_result)
 counts_step r Nothing = record { few = omega arith; accepted = omega arith; whole = λ h. h }
 counts_step r (Accepted cost) = record { few = omega arith; accepted = omega arith; whole = λ h. omega (arith, h) }
 counts_step r Refused = record { few = omega arith; accepted = omega arith; whole = λ h. omega (arith, h) }
 counts_step r Full = record { few = omega arith; accepted = omega arith; whole = λ h. omega (arith, h) }
 
-pub counts_next : (r next : Report) (told : StepResult) → next ≡ report_with r told → CountsStep r told next
-counts_next r next told is = let P : Report → Type 0 = λ x. CountsStep r told x in subst P (sym is) (counts_step r told)
+pub counts_next : (r next : Report) (step_result : StepResult) → next ≡ report_with r step_result → CountsStep r step_result next
+counts_next r next step_result is = let P : Report → Type 0 = λ x. CountsStep r step_result x in subst P (sym is) (counts_step r step_result)

@@ -1,8 +1,8 @@
-pub mod Measures
+pub mod Scorings
 pub mod SeatLaws
 pub mod Chains
 pub mod EachRound
 pub mod Credited
 pub mod Hearing
-pub mod Telling
+pub mod Reporting
 pub mod ForCallers

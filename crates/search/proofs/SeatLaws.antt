@@ -28,12 +28,12 @@ looked_counted a b old new shown l =
     ap (λ (s : SeatValue). under s.held s.seen) l.now ∙ under_known a.held a.seen l.history l.met.knows
 
 -- the granted entry is counted once, where its number is held once
-told_counted : (held : List ℕ) (league : LeagueData) (h : List Entry) (e : Entry) (next : List Entry) (reply : Reply) →
+reported_counted : (held : List ℕ) (league : LeagueData) (h : List Entry) (e : Entry) (next : List Entry) (reply : Reply) →
     times e.caller held ≡ 1 → TellsOf league h e next reply → under held next ≡ under held h + done_count reply
-told_counted held league h e next (Done at cost) once told =
-    let p = told.0 in omega (arith, ap (under held) p, under_append held h (e ∷ []))
-told_counted held league h e next (No at why) once told =
-    let p = told.0 in omega (arith, ap (under held) p)
+reported_counted held league h e next (Done at cost) once reported =
+    let p = reported.0 in omega (arith, ap (under held) p, under_append held h (e ∷ []))
+reported_counted held league h e next (No at why) once reported =
+    let p = reported.0 in omega (arith, ap (under held) p)
 
 -- a proposal counts once where it is granted
 pub answered_counted : (a b : SeatValue) (ask : Ask) (reply : Reply) → Answered a b ask reply →
@@ -42,9 +42,9 @@ answered_counted a b ask reply l =
     let league = a.setting.league in
     let next = next_of league a.setting.room l.history a.number ask in
     let P : Reply → Type 0 = λ r. under a.held next ≡ under a.held l.history + done_count r in
-    let told : under a.held next ≡ under a.held l.history + done_count reply =
+    let reported : under a.held next ≡ under a.held l.history + done_count reply =
     subst P (sym l.replied)
-    (told_counted a.held league l.history (entry a.number ask) next (reply_of league a.setting.room l.history ask) l.seat.own
+    (reported_counted a.held league l.history (entry a.number ask) next (reply_of league a.setting.room l.history ask) l.seat.own
     (tells_of_reply league a.setting.room l.history a.number ask))
     in
     let known = under_known a.held a.seen l.history l.met.knows in

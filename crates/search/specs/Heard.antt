@@ -1,4 +1,4 @@
--- What a gate hears of a worker: the replies to its proposals, and the steps that it tells.
+-- What a gate hears of a worker: the replies to its proposals, and the steps that are reported to it.
 use Rattle.std.specs.Prelude.{◌≡◌, ◌⊎◌, ℕ, ◌+◌, ◌≤◌, List, [], ◌∷◌, length, sum_by, All}
 use Rattle.fixture_board.specs.declared.reply.Reply.{Reply}
 use Rattle.fixture_board.specs.declared.reply.Reply.TheVariants.{Done, No}
@@ -22,10 +22,10 @@ pub record IsHeard (heard : ℕ → Reply → Type 0) (report : Report) : Type 0
 abbrev pub steps_of : Progress → ℕ
 steps_of p = p.steps
 
--- so many steps were told, in parts
-pub record AreTold (told : Progress → Type 0) (steps : ℕ) : Type 0 where
+-- so many steps were reported, in parts
+pub record AreReported (reported : Progress → Type 0) (steps : ℕ) : Type 0 where
   pub parts : List Progress
-  pub are : All told parts
+  pub are : All reported parts
   pub sum : sum_by steps_of parts ≡ steps
 
 -- the reply says that the history has no room
@@ -40,18 +40,18 @@ pub record HearsFull (heard : ℕ → Reply → Type 0) : Type 0 where
   pub is_heard : heard made reply
   pub full : IsFull reply
 
--- Each step that was taken was told. It is all of so many steps, unless a reply was heard that the history has no room
-pub record TellsSteps (told : Progress → Type 0) (heard : ℕ → Reply → Type 0) (steps : ℕ) : Type 0 where
+-- Each step that was taken was reported. It is all of so many steps, unless a reply was heard that the history has no room
+pub record ReportsSteps (reported : Progress → Type 0) (heard : ℕ → Reply → Type 0) (steps : ℕ) : Type 0 where
   pub taken : ℕ
   pub few : taken ≤ steps
-  pub told_are : AreTold told taken
+  pub reported_are : AreReported reported taken
   pub stops : (taken ≡ steps) ⊎ HearsFull heard
 
--- The report of the worker of this number, of which a gate heard. Its steps are told if its copy is of the right size
-pub record IsOfWorker (heard : ℕ → ℕ → Reply → Type 0) (told : ℕ → Progress → Type 0) (sized : Type 0) (steps worker : ℕ)
+-- The report of the worker of this number, of which a gate heard. Its steps are reported if its copy is of the right size
+pub record IsOfWorker (heard : ℕ → ℕ → Reply → Type 0) (reported : ℕ → Progress → Type 0) (sized : Type 0) (steps worker : ℕ)
     (report : Report) : Type 0 where
   pub heard_is : IsHeard (heard worker) report
-  pub told_is : sized → TellsSteps (told worker) (heard worker) steps
+  pub reported_is : sized → ReportsSteps (reported worker) (heard worker) steps
 
 -- the reports of these, in their order
 abbrev pub AreOf : {A : Type 0} → (A → Report → Type 0) → List A → List Report → Type 0

@@ -1,2 +1,2 @@
 pub mod Steps
-pub mod Crews
+pub mod RunParts

@@ -7,13 +7,13 @@
 mod doors;
 mod draws;
 mod gates;
+mod run_context;
 mod runs;
 mod workers;
-mod workplace;
 
 pub use doors::{Door, OwnDoor, SeatDoor};
 pub use draws::{Draws, draw, draw_among, each_round};
 pub use gates::{Gate, NoGate, Progress};
+pub use run_context::RunContext;
 pub use runs::{MAX_WORKERS, Outcome, Reports, RunFault, RunRefused, SearchPlan, run, run_with};
 pub use workers::{Report, WorkerPlan, worker};
-pub use workplace::Workplace;

@@ -7,16 +7,16 @@ ghost use Rattle.shared_board.specs.Setting.{board_at};
 ghost use Rattle.search.specs.Outcomes.{Credits, IsAlike, IsOutcome, IsRefusal, IsWorkers};
 ghost use Rattle.search.specs.Heard.{AreOf, IsOfWorker};
 ghost use Rattle.search.specs.declared.runs.RunFault.TheVariants.{Receipts};
-ghost use Rattle.search.specs.within.Crews.{HasRoom, IsFresh};
+ghost use Rattle.search.specs.within.RunParts.{HasRoom, IsFresh};
 ghost use Rattle.search.specs.Reports.{IsReport};
 ghost use Rattle.search.specs.declared.workers.Report.{Report};
 
-mod crew;
+mod buffers;
 mod threads;
 
-use crate::workers::{Means, Measure, Report};
-use crate::{Gate, NoGate, Workplace};
-use crew::Crew;
+use crate::workers::{Context, Report, Scoring};
+use crate::{Gate, NoGate, RunContext};
+use buffers::RunBuffers;
 use fixture_board::Board;
 use league::League;
 use shared_board::{Closed, Seat, Shared};
@@ -127,42 +127,42 @@ pub fn run<R: Threads + Wait + Sync>(
     ensures refused { IfErr result (IsRefusal plan board) }
 {
     let gate = &NoGate;
-    run_with(Workplace { rt, alloc, gate }, league, board, plan)
+    run_with(RunContext { rt, alloc, gate }, league, board, plan)
 }
 
-/// As `run`, in a workplace, whose gate the workers pass. The league has to be the board's own here too. Each report counts the replies
-/// that the gate heard to all proposals of its worker, and the gate is told of each step, if the league has as many teams as the board's.
+/// As `run`, in a run's context, whose gate the workers pass. The league has to be the board's own here too. Each report counts the replies
+/// that the gate heard to all proposals of its worker, and each step is reported to the gate, if the league has as many teams as the board's.
 pub fn run_with<R: Threads + Wait + Sync, G: Gate + Sync>(
-    workplace: Workplace<'_, R, G>,
+    run_context: RunContext<'_, R, G>,
     league: &League,
     board: Board,
     plan: SearchPlan,
 ) -> Result<Outcome, RunRefused>
     requires { board.history ≡ [] }
     ensures done { IfOk result (IsOutcome plan board) }
-    ensures heard { IfOk result (λ o. AreOf (IsOfWorker (G.heard workplace.entry.gate.now) (G.was_told workplace.entry.gate.now)
+    ensures heard { IfOk result (λ o. AreOf (IsOfWorker (G.heard run_context.entry.gate.now) (G.was_reported run_context.entry.gate.now)
         (teams board.league ≡ teams league.now) plan.steps) (range_with_len 0 plan.workers) o.reports) }
     ensures refused { IfErr result (IsRefusal plan board) }
 {
-    let Workplace { rt, alloc, gate } = workplace;
-    let (crew, board) = crew_for(alloc, board, plan)?;
+    let RunContext { rt, alloc, gate } = run_context;
+    let (buffers, board) = buffers_for(alloc, board, plan)?;
     let of_boards = league.is_same(board.league());
-    let measure = Measure { league, of_boards };
+    let scoring = Scoring { league, of_boards };
     let Ok((shared, seat)) = Shared::new(alloc, board) else {
         let why = RunFault::Memory;
         return Err(RunRefused { why, board: None });
     };
-    let means = Means { rt, gate, measure };
-    search(means, shared, seat, crew, plan)
+    let context = Context { rt, gate, scoring };
+    search(context, shared, seat, buffers, plan)
 }
 
-/// The crew of a plan, beside the board. If there is none, the board comes back as it was.
-fn crew_for<H: Drop>(
+/// The buffers of a plan, beside the board. If there are none, the board comes back as it was.
+fn buffers_for<H: Drop>(
     alloc: Global,
     board: Board,
     plan: SearchPlan,
-) -> Result<(Crew<H>, Board), RunRefused>
-    ensures crew { IfOk result (λ r. HasRoom (teams board.league) plan.workers r.0) }
+) -> Result<(RunBuffers<H>, Board), RunRefused>
+    ensures buffers { IfOk result (λ r. HasRoom (teams board.league) plan.workers r.0) }
     ensures same { IfOk result (λ r. r.1 ≡ board) }
     ensures workers { IfOk result (λ _. IsWorkers plan) }
     ensures refused { IfErr result (IsRefusal plan board) }
@@ -173,8 +173,8 @@ fn crew_for<H: Drop>(
         let board = Some(board);
         return Err(RunRefused { why, board });
     }
-    match Crew::new(alloc, board.schedule(), plan.workers) {
-        Ok(crew) => Ok((crew, board)),
+    match RunBuffers::new(alloc, board.schedule(), plan.workers) {
+        Ok(buffers) => Ok((buffers, board)),
         Err(_) => {
             let why = RunFault::Memory;
             let board = Some(board);
@@ -185,39 +185,39 @@ fn crew_for<H: Drop>(
 
 /// Has the workers search on a shared board that has no other seat yet, and closes it.
 fn search<R: Threads + Wait + Sync, G: Gate + Sync>(
-    means: Means<'_, R, G>,
+    context: Context<'_, R, G>,
     shared: Shared,
     mut seat: Seat,
-    crew: Crew<Handle<G>>,
+    buffers: RunBuffers<Handle<G>>,
     plan: SearchPlan,
 ) -> Result<Outcome, RunRefused>
     requires seat { IsFresh shared seat }
-    requires measured { IsTrue means.measure.of_boards → seat.setting.league ≡ means.measure.league.now }
-    requires crew { HasRoom (teams seat.setting.league) plan.workers crew }
+    requires scoring { IsTrue context.scoring.of_boards → seat.setting.league ≡ context.scoring.league.now }
+    requires buffers { HasRoom (teams seat.setting.league) plan.workers buffers }
     requires workers { IsWorkers plan }
     ensures done { IfOk result (IsOutcome plan (board_at seat.setting [])) }
-    ensures heard { IfOk result (λ o. AreOf (IsOfWorker (G.heard means.entry.gate.now) (G.was_told means.entry.gate.now)
-        (teams seat.setting.league ≡ teams means.entry.measure.league.now) plan.steps) (range_with_len 0 plan.workers) o.reports) }
+    ensures heard { IfOk result (λ o. AreOf (IsOfWorker (G.heard context.entry.gate.now) (G.was_reported context.entry.gate.now)
+        (teams seat.setting.league ≡ teams context.entry.scoring.league.now) plan.steps) (range_with_len 0 plan.workers) o.reports) }
     ensures refused { IfErr result (IsRefusal plan (board_at seat.setting [])) }
 {
-    let rt = means.rt;
-    let Crew {
+    let rt = context.rt;
+    let RunBuffers {
         copies,
-        jobs,
+        inputs,
         handles,
         reports,
-    } = crew;
-    let Ok(jobs) = seat_all(rt, &shared, &mut seat, copies, jobs) else {
+    } = buffers;
+    let Ok(inputs) = seat_all(rt, &shared, &mut seat, copies, inputs) else {
         let why = RunFault::Spawn;
         let board = Some(shared.close(rt, seat).board);
         return Err(RunRefused { why, board });
     };
     let run = Run {
-        means,
+        context,
         shared: &shared,
         plan,
     };
-    let (all, handles) = launch(run, jobs, handles);
+    let (all, handles) = launch(run, inputs, handles);
     let reports = gather(run, &mut seat, handles, reports);
     let closed = shared.close(rt, seat);
     if !all {

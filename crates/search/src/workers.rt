@@ -2,9 +2,9 @@
 
 ghost use Rattle.std.specs.Prelude.{◌≡◌, ◌+◌, ◌^◌, ◌<◌};
 ghost use Rattle.league.specs.League.{teams};
-ghost use Rattle.search.specs.Heard.{IsHeard, TellsSteps};
+ghost use Rattle.search.specs.Heard.{IsHeard, ReportsSteps};
 ghost use Rattle.search.specs.Reports.{IsReport};
-ghost use Rattle.search.specs.within.Steps.{IsMeasured, IsTold, IsToldBefore, generator_of, progress_with, report_with, slack_of};
+ghost use Rattle.search.specs.within.Steps.{IsReported, IsReportedBefore, IsScoring, generator_of, progress_with, report_with, slack_of};
 
 mod steps;
 
@@ -14,8 +14,8 @@ use fixtures::Schedule;
 use league::League;
 use rand_pcg::Lcg64Xsh32;
 use std::sync::Wait;
-pub(crate) use steps::{Means, Measure};
-use steps::{Kept, StepResult, Trial, least_with, refresh, step};
+pub(crate) use steps::{Context, Scoring};
+use steps::{Candidate, StepResult, WorkerState, least_with, refresh, step};
 
 /// The plan of a worker.
 #[derive(Clone, Copy, Debug, PartialEq, Eq)]
@@ -44,12 +44,12 @@ pub struct Report {
 
 impl Report {
     /// The report with one more step.
-    fn with(self, told: StepResult) -> Self
+    fn with(self, step_result: StepResult) -> Self
         requires whole { self.made ≡ self.accepted + self.refused }
         requires few { self.made + 1 < 2 ^ 32 }
-        ensures { result ≡ report_with self told }
+        ensures { result ≡ report_with self step_result }
     {
-        match told {
+        match step_result {
             StepResult::Nothing => self,
             StepResult::Accepted(_) => Report {
                 made: self.made + 1,
@@ -75,7 +75,7 @@ impl Report {
 /// the reply the copy is the board's schedule as far as the worker can tell: if the version isn't the one that it
 /// expects, it looks.
 ///
-/// The report counts the replies that the gate heard. The steps that it is told add up to those that the worker took: all, unless it heard
+/// The report counts the replies that the gate heard. The steps that are reported to it add up to those that the worker took: all, unless it heard
 /// that the board is full.
 pub fn worker<R: Wait, D: Door, G: Gate>(
     rt: &R,
@@ -88,37 +88,37 @@ pub fn worker<R: Wait, D: Door, G: Gate>(
     requires { D.granted door.old < 2 ^ 62 }
     ensures report { IsReport plan.steps result }
     ensures heard { IsHeard (G.heard gate.now plan.worker) result }
-    ensures told { copy.old.teams ≡ teams league.now →
-        TellsSteps (G.was_told gate.now plan.worker) (G.heard gate.now plan.worker) plan.steps }
+    ensures reported { copy.old.teams ≡ teams league.now →
+        ReportsSteps (G.was_reported gate.now plan.worker) (G.heard gate.now plan.worker) plan.steps }
     ensures counted { D.granted door.new ≡ D.granted door.old + result.accepted }
     ensures stays { D.stays door.old door.new }
     ensures other_size { ¬ (copy.old.teams ≡ teams league.now) →
         (result.made ≡ 0) × (copy.new ≡ copy.old) × (door.new ≡ door.old) }
 {
-    let measure = Measure {
+    let scoring = Scoring {
         league,
         of_boards: false,
     };
-    let means = Means { rt, gate, measure };
-    take_steps(means, door, plan, copy)
+    let context = Context { rt, gate, scoring };
+    take_steps(context, door, plan, copy)
 }
 
 /// Takes a worker's steps, as [`worker`] says.
 pub(crate) fn take_steps<R: Wait, D: Door, G: Gate>(
-    means: Means<'_, R, G>,
+    context: Context<'_, R, G>,
     door: &mut D,
     plan: WorkerPlan,
     copy: &mut Schedule,
 ) -> Report
     requires few { D.granted door.old < 2 ^ 62 }
-    requires measured { IsMeasured means.measure.of_boards means.measure.league.now (D.may_have door.old) }
+    requires scoring { IsScoring context.scoring.of_boards context.scoring.league.now (D.may_have door.old) }
     ensures report { IsReport plan.steps result }
-    ensures heard { IsHeard (G.heard means.entry.gate.now plan.worker) result }
-    ensures told { copy.old.teams ≡ teams means.entry.measure.league.now →
-        TellsSteps (G.was_told means.entry.gate.now plan.worker) (G.heard means.entry.gate.now plan.worker) plan.steps }
+    ensures heard { IsHeard (G.heard context.entry.gate.now plan.worker) result }
+    ensures reported { copy.old.teams ≡ teams context.entry.scoring.league.now →
+        ReportsSteps (G.was_reported context.entry.gate.now plan.worker) (G.heard context.entry.gate.now plan.worker) plan.steps }
     ensures counted { D.granted door.new ≡ D.granted door.old + result.accepted }
     ensures stays { D.stays door.old door.new }
-    ensures other_size { ¬ (copy.old.teams ≡ teams means.entry.measure.league.now) →
+    ensures other_size { ¬ (copy.old.teams ≡ teams context.entry.scoring.league.now) →
         (result.made ≡ 0) × (copy.new ≡ copy.old) × (door.new ≡ door.old) }
 {
     let mut report = Report {
@@ -126,34 +126,34 @@ pub(crate) fn take_steps<R: Wait, D: Door, G: Gate>(
         accepted: 0,
         refused: 0,
     };
-    let teams = means.measure.league.teams();
+    let teams = context.scoring.league.teams();
     if copy.teams() == teams {
         let mut generator = generator_of(plan);
-        let mut kept = Kept {
-            known: refresh(means.rt, door, means.measure, copy),
-            evaluator: Evaluator::new(means.measure.league),
+        let mut state = WorkerState {
+            copy_cost: refresh(context.rt, door, context.scoring, copy),
+            evaluator: Evaluator::new(context.scoring.league),
         };
         let mut progress = Progress {
             steps: 0,
-            least: least_with(None, kept.known.cost),
+            least: least_with(None, state.copy_cost.cost),
         };
-        means.gate.begun(means.rt, plan.worker);
+        context.gate.begun(context.rt, plan.worker);
         for s in 0..plan.steps {
-            let trial = Trial {
+            let candidate = Candidate {
                 worker: plan.worker,
                 made: report.made,
                 slack: slack_at(plan, s),
                 mv: draw(&mut generator, teams),
             };
-            let told = step(means, door, copy, &mut kept, trial);
-            report = report.with(told);
-            progress = progress_after(progress, told);
-            if let StepResult::Full = told {
+            let step_result = step(context, door, copy, &mut state, candidate);
+            report = report.with(step_result);
+            progress = progress_after(progress, step_result);
+            if let StepResult::Full = step_result {
                 break;
             }
-            progress = told_when_due(means, plan.worker, progress);
+            progress = report_when_due(context, plan.worker, progress);
         }
-        tell_rest(means, plan.worker, progress);
+        report_rest(context, plan.worker, progress);
     }
     report
 }
@@ -166,11 +166,11 @@ fn generator_of(plan: WorkerPlan) -> Lcg64Xsh32
 }
 
 /// How far the worker is after one more step.
-fn progress_after(progress: Progress, told: StepResult) -> Progress
+fn progress_after(progress: Progress, step_result: StepResult) -> Progress
     requires { progress.steps + 1 < 2 ^ 32 }
-    ensures { result ≡ progress_with progress told }
+    ensures { result ≡ progress_with progress step_result }
 {
-    let least = match told {
+    let least = match step_result {
         StepResult::Accepted(cost) => least_with(progress.least, cost),
         _ => progress.least,
     };
@@ -180,30 +180,30 @@ fn progress_after(progress: Progress, told: StepResult) -> Progress
     }
 }
 
-/// Tells the gate how far the worker is, if that is due. What it is told is not told again.
-fn told_when_due<R: Wait, G: Gate>(
-    means: Means<'_, R, G>,
+/// Reports to the gate how far the worker is, if that is due. What was reported is not reported again.
+fn report_when_due<R: Wait, G: Gate>(
+    context: Context<'_, R, G>,
     worker: u32,
     progress: Progress,
 ) -> Progress
-    ensures { IsToldBefore (G.was_told means.entry.gate.now worker) progress result }
+    ensures { IsReportedBefore (G.was_reported context.entry.gate.now worker) progress result }
 {
-    if progress.steps < means.gate.pause() {
+    if progress.steps < context.gate.pause() {
         return progress;
     }
-    means.gate.told(means.rt, worker, progress);
+    context.gate.reported(context.rt, worker, progress);
     Progress {
         steps: 0,
         ..progress
     }
 }
 
-/// Tells the gate how far the worker is at its end, if it took a step since it last told.
-fn tell_rest<R: Wait, G: Gate>(means: Means<'_, R, G>, worker: u32, progress: Progress)
-    ensures { IsTold (G.was_told means.entry.gate.now worker) progress }
+/// Reports to the gate how far the worker is at its end, if it took a step since it last reported.
+fn report_rest<R: Wait, G: Gate>(context: Context<'_, R, G>, worker: u32, progress: Progress)
+    ensures { IsReported (G.was_reported context.entry.gate.now worker) progress }
 {
     if 0 < progress.steps {
-        means.gate.told(means.rt, worker, progress);
+        context.gate.reported(context.rt, worker, progress);
     }
 }
 

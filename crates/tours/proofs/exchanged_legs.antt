@@ -1,8 +1,8 @@
--- Legs after an exchange, told on the schedule before it.
+-- Legs after an exchange, predicted on the schedule before it.
 pub mod ExchangedTours
-pub mod RoundsTold
-pub mod TeamsTold
+pub mod RoundsDelta
+pub mod TeamsDelta
 pub mod TurnedLegs
 pub mod EdgeLegs
 pub mod OwnLegs
-pub mod VisitsTold
+pub mod VisitsDelta

@@ -1,3 +1,3 @@
 pub mod ByRounds
 pub mod TwoTeams
-pub mod MovedTold
+pub mod MovedDelta

@@ -1,5 +1,5 @@
--- Runs and repeats after an exchange, told on the schedule before it.
+-- Runs and repeats after an exchange, predicted on the schedule before it.
 pub mod RunStarts
-pub mod RunsTold
-pub mod RepeatsTold
+pub mod RunsDelta
+pub mod RepeatsDelta
 pub mod EdgeRepeats

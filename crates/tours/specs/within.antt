@@ -1,4 +1,4 @@
 pub mod Walked
 pub mod Moved
-pub mod Told
+pub mod Delta
 pub mod Exchanges

@@ -6,26 +6,26 @@
 //! memory. Teams and rounds are numbered from 0.
 #![tactic(auto)]
 
+mod clip;
+mod delta;
 mod laws;
 mod moved;
-mod moved_told;
+mod moved_delta;
 mod repeat_counts;
-mod repeats_told;
-mod rounds_told;
+mod repeats_delta;
+mod rounds_delta;
 mod runs;
-mod runs_told;
-mod season;
-mod teams_told;
-mod told;
+mod runs_delta;
+mod teams_delta;
 mod travel_parts;
 mod unphased_pairs;
 mod whole_travel;
 
+pub use delta::{CountDelta, MovedDelta, TravelDelta, legs_of, moved_of, repeats_of, runs_of};
 pub use laws::parts_balance;
 pub use moved::moved_games;
 pub use repeat_counts::{repeats, repeats_part};
 pub use runs::{runs_over, runs_part, windows_spent};
-pub use told::{Breaches, Legs, Moved, legs_of, moved_of, repeats_of, runs_of};
 pub use travel_parts::travel_part;
 pub use unphased_pairs::{is_unphased, unphased, unphased_part};
 pub use whole_travel::{travel, travel_of};

@@ -8,7 +8,7 @@ ghost use Rattle.fixtures.specs.Games.{round_count, meets};
 ghost use Rattle.tours.specs.Repeats.{repeats_after, repeats};
 ghost use Rattle.tours.specs.Parts.{repeats_part};
 
-use crate::season::rounds_next_to;
+use crate::clip::rounds_next_to;
 use fixtures::{Schedule, Touched};
 use league::SlotSet;
 

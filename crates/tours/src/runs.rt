@@ -8,9 +8,9 @@ ghost use Rattle.league.specs.Sums.{sum_where, count_where};
 ghost use Rattle.fixtures.specs.Games.{Games, round_count, IsDoubleRoundRobin};
 ghost use Rattle.tours.specs.Runs.{windows, is_run, runs_of, runs_over};
 ghost use Rattle.tours.specs.Parts.{runs_part};
-ghost use Rattle.tours.specs.within.Told.{HasHomes, HasRuns};
+ghost use Rattle.tours.specs.within.Delta.{HasHomes, HasRuns};
 
-use crate::season::teams_in;
+use crate::clip::teams_in;
 use fixtures::{Schedule, Touched};
 use league::limits::MAX_ROUNDS;
 use league::{League, SlotSet, TeamSet};

@@ -9,7 +9,7 @@ ghost use Rattle.fixtures.specs.Games.{round_count, IsDoubleRoundRobin};
 ghost use Rattle.tours.specs.Tours.{leg};
 ghost use Rattle.tours.specs.Parts.{travel_part};
 
-use crate::season::teams_in;
+use crate::clip::teams_in;
 use crate::whole_travel::leg;
 use fixtures::{Schedule, Touched};
 use league::{League, SlotSet, TeamSet};

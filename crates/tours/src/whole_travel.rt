@@ -50,11 +50,11 @@ pub(crate) fn leg(schedule: &Schedule, league: &League, team: u8, index: u8) -> 
 {
     let from = stop(schedule, team, index);
     let to = stop(schedule, team, index + 1);
-    way(league, from, to)
+    distance(league, from, to)
 }
 
 /// The way from the home of a team to that of another, as long as the way back.
-pub(crate) fn way(league: &League, from: u8, to: u8) -> u64
+pub(crate) fn distance(league: &League, from: u8, to: u8) -> u64
     requires from { from < teams league.now }
     requires to { to < teams league.now }
     ensures value { result ≡ distance league.now from to }

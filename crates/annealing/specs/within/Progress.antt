@@ -23,7 +23,7 @@ pub record IsGoing (leg : Leg) (old : Book) (blocks : ℕ) (going : Going) : Typ
   pub steps : going.steps ≡ min (1000 * blocks) leg.steps
   pub accepted : going.accepted ≤ going.steps
 
--- what is told after a block: its steps, and the least total on the board
+-- what is reported after a block: its steps, and the least total on the board
 abbrev pub progress_of : Going → Tally → Progress
 progress_of going tally =
     let board = going.boards.board in record { steps = tally.steps; least = total_in (best_of board.league board.history) }

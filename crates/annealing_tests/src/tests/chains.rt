@@ -6,7 +6,7 @@ use crate::tests::leagues::{Sample, league_of};
 use annealing::{Annealed, Chain, Conditions, LegPlan, anneal, measure};
 use fixture_board::Board;
 use policy::{Course, Leg, MoveSet, WeightCourse};
-use search::{Gate, NoGate, Workplace, each_round};
+use search::{Gate, NoGate, RunContext, each_round};
 use std::alloc::Global;
 use std::sync::Wait;
 use std::test::Fail;
@@ -54,7 +54,7 @@ pub(crate) fn chain_of(alloc: Global, sample: Sample, room: u32) -> Result<Chain
 
 /// The chain after a leg in all rounds.
 pub(crate) fn gone_on<R: Wait, G: Gate>(
-    workplace: Workplace<'_, R, G>,
+    run_context: RunContext<'_, R, G>,
     chain: Chain,
     plan: LegPlan,
 ) -> Result<Annealed, Fail>
@@ -62,11 +62,11 @@ pub(crate) fn gone_on<R: Wait, G: Gate>(
 {
     let league = chain.board.league();
     let conditions = Conditions {
-        unit: measure(workplace.alloc, league)?,
+        unit: measure(run_context.alloc, league)?,
         rounds: each_round(league.teams()),
         weights: WEIGHTS,
     };
-    Ok(anneal(workplace, conditions, chain, plan)?)
+    Ok(anneal(run_context, conditions, chain, plan)?)
 }
 
 /// What a leg comes to, through no gate.
@@ -83,7 +83,7 @@ pub(crate) fn annealed<R: Wait>(rt: &R, alloc: Global, asked: Asked) -> Result<A
     let gate = &NoGate;
     let chain = chain_of(alloc, sample, room)?;
     gone_on(
-        Workplace { rt, alloc, gate },
+        RunContext { rt, alloc, gate },
         chain,
         LegPlan { leg, seed, stream },
     )

@@ -5,7 +5,7 @@ use crate::tests::checks::check_same;
 use crate::tests::leagues::{Sample, league_of};
 use annealing::{Annealed, Chain, Conditions, LegPlan, anneal, measure};
 use fixture_board::Board;
-use search::{NoGate, Workplace, each_round};
+use search::{NoGate, RunContext, each_round};
 use std::alloc::Global;
 use std::process::Abort;
 use std::sync::Wait;
@@ -27,7 +27,7 @@ fn leg<R: Wait>(rt: &R, alloc: Global) -> Option<Annealed> {
     };
     let gate = &NoGate;
     anneal(
-        Workplace { rt, alloc, gate },
+        RunContext { rt, alloc, gate },
         conditions,
         Chain { board, weight },
         plan,

@@ -11,11 +11,11 @@ use Rattle.texts.specs.declared.progress_text.Advance.{Advance}
 
 -- the lesser of two totals, each of which may be unknown
 abbrev pub lesser : Option ℕ → Option ℕ → Option ℕ
-lesser None told = told
+lesser None reported = reported
 lesser (Some known) None = Some known
-lesser (Some known) (Some told) = Some (min known told)
+lesser (Some known) (Some reported) = Some (min known reported)
 
--- how far all workers are when one more has told. Steps stop at the greatest `u64`
+-- how far all workers are when one more has reported. Steps stop at the greatest `u64`
 abbrev pub reached_with : Reached → Progress → Reached
 reached_with r p = record {
   steps = min (r.steps + p.steps) (2 ^ 64 - 1);
@@ -69,11 +69,11 @@ abbrev pub first : Option Instant → Instant → Option Instant
 first None now = Some now
 first (Some noted) now = Some noted
 
--- after how many steps a worker tells, if it told after so many before. Less than 8 milliseconds since the last telling double
+-- after how many steps a worker reports, if it reported after so many before. Less than 8 milliseconds since the last report double
 -- it, up to 4096; more than 64 halve it
 abbrev pub pause_after : ℕ → Option Instant → Instant → ℕ
 pause_after pause None now = pause
-pause_after pause (Some told) now =
-    if nat_lt (millis told now) 8 then min pause 2048 * 2
-    else if nat_lt 64 (millis told now) then max (pause / 2) 1
+pause_after pause (Some reported) now =
+    if nat_lt (millis reported now) 8 then min pause 2048 * 2
+    else if nat_lt 64 (millis reported now) then max (pause / 2) 1
     else pause

@@ -70,10 +70,10 @@ abbrev pub IsRest : LeagueData → Scope → Games → Cost → Type 0
 IsRest l scope after rest = with_penalties rest (penalties_part l scope after) ≡ cost_of l after
 
 -- travel, runs, repeats and what leaving the start costs as they are after the exchange, and all else as it is before it
-pub record IsTold (l : LeagueData) (g : Games) (exchange : Exchange) (told : Cost) : Type 0 where
-  pub travel_is : told.travel ≡ travel l (exchanged_by g exchange)
-  pub hard : told.hard + games_cost l g ≡ (cost_of l g).hard + games_cost l (exchanged_by g exchange)
-  pub soft : told.soft + near_cost l g ≡ (cost_of l g).soft + near_cost l (exchanged_by g exchange)
+pub record IsPredicted (l : LeagueData) (g : Games) (exchange : Exchange) (predicted : Cost) : Type 0 where
+  pub travel_is : predicted.travel ≡ travel l (exchanged_by g exchange)
+  pub hard : predicted.hard + games_cost l g ≡ (cost_of l g).hard + games_cost l (exchanged_by g exchange)
+  pub soft : predicted.soft + near_cost l g ≡ (cost_of l g).soft + near_cost l (exchanged_by g exchange)
 
 -- what a deviation of 1 from a rule of this weight adds to the score by a weight of hard breaches
 abbrev pub score_weight : ℕ → Weight → ℕ

@@ -1,7 +1,7 @@
 //! Tables that give no league, and what is said of them.
 
 use super::checks::check_same;
-use distance_tables::{Terms, league_from_table};
+use distance_tables::{Settings, league_from_table};
 use std::alloc::Global;
 use std::process::Abort;
 use std::test::Fail;
@@ -74,7 +74,7 @@ const FAULTS: &[Case] = &[
 ];
 
 fn check_case(rt: &impl Abort, alloc: Global, (table, wanted): Case) -> Result<(), Fail> {
-    let told = match league_from_table(alloc, table.as_bytes(), None, Terms::default()) {
+    let told = match league_from_table(alloc, table.as_bytes(), None, Settings::default()) {
         Ok(_) => String::from_str(alloc, "a league")?,
         Err(fault) => format!(in alloc; "{fault}")?,
     };

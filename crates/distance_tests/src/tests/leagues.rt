@@ -1,7 +1,7 @@
 //! Tables, and the leagues that they give.
 
 use super::checks::check_same;
-use distance_tables::{Symmetry, Terms, is_title, league_from_table};
+use distance_tables::{Settings, Symmetry, is_title, league_from_table};
 use league::read_league;
 use std::alloc::Global;
 use std::process::Abort;
@@ -11,7 +11,7 @@ use std::test::Fail;
 /// A table, what is taken for a pair that is further apart one way, and how many distances are rounded.
 type Case = (&'static str, Option<Symmetry>, u64);
 
-const NOTHING_SAID: Terms = Terms {
+const NOTHING_SAID: Settings = Settings {
     title: None,
     at_most: None,
     hard_weight: None,
@@ -103,12 +103,12 @@ const QUOTED_LEAGUE: &str = r#"{
 #[test]
 fn names_and_terms_are_said(rt: HostRuntime) -> Result<(), Fail> {
     let alloc = rt.alloc();
-    let terms = Terms {
+    let settings = Settings {
         title: Some("Cup \"\u{fc}\""),
         at_most: Some(2),
         hard_weight: Some(1_000_000),
     };
-    let made = league_from_table(alloc, QUOTED.as_bytes(), None, terms)?;
+    let made = league_from_table(alloc, QUOTED.as_bytes(), None, settings)?;
     check_same(&rt, &str::from_utf8(&made.text), &Ok(QUOTED_LEAGUE));
     let league = read_league(alloc, &made.text)?;
     let said = (league.name(0), league.at_most(), league.hard_weight());

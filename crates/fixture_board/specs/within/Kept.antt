@@ -29,13 +29,13 @@ IsLeader league None best g = best ≡ None
 IsLeader league (Some p) best g = (best ≡ Some (best_at league p)) × (g ≡ games_of league p)
 
 -- whether a version of this cost is better than the best
-abbrev pub leads : Option Best → Cost → Bool
-leads None cost = cost.hard == 0
-leads (Some best) cost = cost.hard == 0 && nat_lt (total_of cost) best.total
+abbrev pub is_improved_by : Option Best → Cost → Bool
+is_improved_by None cost = cost.hard == 0
+is_improved_by (Some best) cost = cost.hard == 0 && nat_lt (total_of cost) best.total
 
 -- the best after the version `at`, of this cost
-abbrev pub led_by : Option Best → Cost → ℕ → Option Best
-led_by best cost at = if leads best cost then Some (record { at = at; total = total_of cost }) else best
+abbrev pub improved_by : Option Best → Cost → ℕ → Option Best
+improved_by best cost at = if is_improved_by best cost then Some (record { at = at; total = total_of cost }) else best
 
 -- what is kept beside the league: with the history what follows from it
 pub record Kept : Type 0 where
@@ -85,8 +85,8 @@ pub record FollowsHistory (league : LeagueData) (k : Kept) : Type 0 where
 abbrev pub entered : Kept → Entry → Kept
 entered k e = record k {
   history = k.history ++ e ∷ [];
-  best = led_by k.best k.cost (length k.history + 1);
-  best_games = if leads k.best k.cost then k.games else k.best_games;
+  best = improved_by k.best k.cost (length k.history + 1);
+  best_games = if is_improved_by k.best k.cost then k.games else k.best_games;
 }
 
 -- a step that refuses leaves all as it was

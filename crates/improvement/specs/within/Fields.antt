@@ -9,14 +9,14 @@ use Rattle.policy.specs.declared.waves.Wave.{Wave}
 use Rattle.improvement.specs.declared.field.Entrant.{Entrant}
 use Rattle.improvement.specs.declared.stage.Beginning.{Beginning}
 use Rattle.improvement.specs.declared.standing.Standing.{Standing}
-use Rattle.improvement.specs.Legs.{leads, standing_of}
+use Rattle.improvement.specs.Legs.{improves, standing_of}
 
 abbrev pub standing_in : Entrant → Standing
 standing_in e = standing_of e.chain.board.league e.chain.board.history
 
 -- whether the first is better than the second
 abbrev pub is_before : Entrant → Entrant → Bool
-is_before e other = leads (standing_in e) (standing_in other)
+is_before e other = improves (standing_in e) (standing_in other)
 
 -- with one more, which comes before the first one that it is better than
 abbrev pub ranked : Entrant → List Entrant → List Entrant

@@ -7,4 +7,4 @@ use Rattle.improvement.specs.Legs.{ahead}
 
 -- the history that leads after one more leg than so many
 abbrev pub lead_after : LeagueData → ℕ → List Entry → List Entry → List Entry
-lead_after league told leading h = if told == 0 then rewound league h else ahead league leading h
+lead_after league reported leading h = if reported == 0 then rewound league h else ahead league leading h

@@ -12,19 +12,19 @@ use Rattle.improvement.specs.declared.line.Line.{Line}
 use Rattle.improvement.specs.declared.plan.ImproveFault.{ImproveFault}
 use Rattle.improvement.specs.declared.plan.ImproveFault.TheVariants.{Workers, Memory, Write}
 use Rattle.improvement.specs.declared.plan.ImprovePlan.{ImprovePlan}
-use Rattle.improvement.specs.declared.told.Told.{Told}
+use Rattle.improvement.specs.declared.reported.Reported.{Reported}
 use Rattle.improvement.specs.Chains.{chains_of}
-use Rattle.improvement.specs.Legs.{AreLegs, LegRun, lead_of, least_told, steps_in}
+use Rattle.improvement.specs.Legs.{AreLegs, LegRun, lead_of, least_reported, steps_in}
 use Rattle.improvement.specs.LegText.{improve_text, legs_text}
 use Rattle.improvement.specs.Outcome.{AreAll}
 use Rattle.improvement.specs.within.Lines.{IsLine, IsRunning, left_in, running_steps}
 
 -- what is known of these legs
-pub record HasTold (start : Book) (legs : List LegRun) (told : Told) : Type 0 where
-  pub lead_is : told.lead ≡ book start.league start.room (lead_of start.league legs)
-  pub least_is : told.least ≡ least_told start.league legs
-  pub count : told.legs ≡ length legs
-  pub chains_is : told.chains.bests.items ≡ chains_of start.league legs
+pub record HasReported (start : Book) (legs : List LegRun) (reported : Reported) : Type 0 where
+  pub lead_is : reported.lead ≡ book start.league start.room (lead_of start.league legs)
+  pub least_is : reported.least ≡ least_reported start.league legs
+  pub count : reported.legs ≡ length legs
+  pub chains_is : reported.chains.bests.items ≡ chains_of start.league legs
 
 -- For boards that begin so, a unit and a plan, and a buffer over a sink with these bytes held and these calls
 module _ {W : Type 0} (held : W → Option (List ℕ)) (tally : W → Tally) (start : Book) (unit : Measure) (plan : ImprovePlan)
@@ -40,19 +40,19 @@ module _ {W : Type 0} (held : W → Option (List ℕ)) (tally : W → Tally) (st
     pub are : AreLegs start.league start.room legs
     pub sends : Sends (legs_text start.league unit legs)
 
-  -- some legs were told, these are out of line, and the others stand in it
-  pub record IsUnderWay (out_of_line : List RunningLeg) (line : Line) (told : Told) : Type 0 where
+  -- some legs were reported, these are out of line, and the others stand in it
+  pub record IsUnderWay (out_of_line : List RunningLeg) (line : Line) (reported : Reported) : Type 0 where
     pub sent : HasSent
     pub steps : sum_by running_steps out_of_line + left_in line + steps_in sent.legs ≡ plan.effort
     pub running : All (IsRunning start sent.legs) out_of_line
     pub line_is : IsLine start sent.legs line
-    pub told_is : HasTold start sent.legs told
+    pub reported_is : HasReported start sent.legs reported
 
-  -- all legs were told, and their texts were sent
-  pub record HasRunAll (told : Told) : Type 0 where
+  -- all legs were reported, and their texts were sent
+  pub record HasRunAll (reported : Reported) : Type 0 where
     pub sent : HasSent
     pub all : AreAll plan sent.legs
-    pub told_is : HasTold start sent.legs told
+    pub reported_is : HasReported start sent.legs reported
 
   -- the whole text was written and sent, and this is the best version of the history in it
   pub record HasWritten (best : Option Best) : Type 0 where
@@ -70,7 +70,7 @@ module _ {W : Type 0} (held : W → Option (List ℕ)) (tally : W → Tally) (st
     pub all : ended ≡ true → AreAll plan legs
     pub stops : Stops held tally old new (improve_text start.league unit ended legs)
 
-  -- a part that ends well by doing something. Otherwise a write failed, or memory ran out once the texts of the legs that were told had
+  -- a part that ends well by doing something. Otherwise a write failed, or memory ran out once the texts of the legs that were reported had
   -- been sent
   abbrev pub EndsBy : {T : Type 0} → (T → Type 0) → Result T ImproveFault → Type 0
   EndsBy done (Ok value) = done value

@@ -110,7 +110,7 @@ fn wrong_numbers_of_workers_write_nothing(rt: HostRuntime) {
 }
 
 /// How many chains the legs of a text have, and the line before its history.
-fn chains_told(text: &[u8]) -> (u64, &[u8]) {
+fn chains_reported(text: &[u8]) -> (u64, &[u8]) {
     let mut chains = 0;
     let mut last: &[u8] = b"";
     let mut rest = text;
@@ -131,7 +131,7 @@ fn chains_told(text: &[u8]) -> (u64, &[u8]) {
 fn rule_that_cannot_be_kept_is_broken_in_each_chain(rt: HostRuntime) {
     let league = impossible(&rt, rt.alloc());
     let found = improvement_of(&rt, rt.alloc(), league, asked(1, 3000));
-    let (chains, last) = chains_told(&found.text);
+    let (chains, last) = chains_reported(&found.text);
     let wanted = format!(in rt.alloc(); "rule 1 CA1 broken in {chains} of {chains}").expect(
         &rt, "memory",
     );

@@ -14,7 +14,7 @@ use texts::{next_line, next_word, number, play_script, split_at_line};
 /// Six teams in a circle have the mean distance 9/5, so a rigid leg cools from 18/5 to 9/10. A sixteenth of 1600 steps is for the first
 /// chain, of which such a leg has seven tenths.
 #[test]
-fn first_leg_is_told_in_distances(rt: HostRuntime) {
+fn first_leg_is_reported_in_distances(rt: HostRuntime) {
     let league = circle(&rt, rt.alloc(), 6);
     let found = improvement_of(&rt, rt.alloc(), league, asked(1, 1600));
     let line = b"leg 1 chain 1 moves homes,teams from 3.600 to 0.900 steps 70 accepted ";
@@ -68,7 +68,7 @@ fn workers_change_nothing(rt: HostRuntime) {
 
 /// What the lines of a text say all together.
 #[derive(Clone, Copy, Debug, PartialEq, Eq)]
-struct Told {
+struct Reported {
     legs: u64,
     /// The steps of all legs.
     steps: u64,
@@ -78,11 +78,11 @@ struct Told {
     ordered: bool,
 }
 
-impl Told {
+impl Reported {
     /// With a line of a leg.
-    fn with_leg(self, line: &[u8]) -> Option<Told> {
+    fn with_leg(self, line: &[u8]) -> Option<Reported> {
         let number = number_behind(line, b"leg")?;
-        Some(Told {
+        Some(Reported {
             legs: number,
             steps: self.steps.checked_add(number_behind(line, b"steps")?)?,
             ordered: self.ordered && number == self.legs.checked_add(1)?,
@@ -91,12 +91,12 @@ impl Told {
     }
 
     /// With the total of a solution.
-    fn with_total(self, total: u64) -> Told {
+    fn with_total(self, total: u64) -> Reported {
         let falls = match self.least {
             Some(least) => total < least,
             None => true,
         };
-        Told {
+        Reported {
             least: Some(total),
             ordered: self.ordered && falls,
             ..self
@@ -116,8 +116,8 @@ pub(crate) fn number_behind(line: &[u8], word: &[u8]) -> Option<u64> {
 }
 
 /// What stands in a text up to its history, and the lines behind the head of that.
-fn read_legs(text: &[u8]) -> Option<(Told, &[u8])> {
-    let mut told = Told {
+fn read_legs(text: &[u8]) -> Option<(Reported, &[u8])> {
+    let mut reported = Reported {
         legs: 0,
         steps: 0,
         least: None,
@@ -127,12 +127,12 @@ fn read_legs(text: &[u8]) -> Option<(Told, &[u8])> {
     for _ in 0..100_000 {
         let line = next_line(&mut rest)?;
         if line.starts_with(b"history ") {
-            return Some((told, rest));
+            return Some((reported, rest));
         }
         if line.starts_with(b"leg ") {
-            told = told.with_leg(line)?;
+            reported = reported.with_leg(line)?;
         } else if line.starts_with(b"best ") {
-            told = told.with_total(number_behind(line, b"best")?);
+            reported = reported.with_total(number_behind(line, b"best")?);
         }
     }
     None
@@ -141,8 +141,8 @@ fn read_legs(text: &[u8]) -> Option<(Told, &[u8])> {
 fn check_steps<T: Threads + Wait + Sync + Abort>(rt: &T, alloc: Global, effort: u64) {
     let league = circle(rt, alloc, 6);
     let found = improvement_of(rt, alloc, league, asked(2, effort));
-    let (told, _) = read_legs(&found.text).expect(rt, "a history");
-    check_same(rt, &(told.steps, told.ordered), &(effort, true));
+    let (reported, _) = read_legs(&found.text).expect(rt, "a history");
+    check_same(rt, &(reported.steps, reported.ordered), &(effort, true));
     check_same(rt, &found.ended.is_ok(), &true);
 }
 
@@ -180,7 +180,7 @@ fn least_played(rt: &impl Abort, alloc: Global, history: &[u8]) -> Option<u64> {
 fn history_leads_to_the_least_total(rt: HostRuntime) {
     let league = circle(&rt, rt.alloc(), 6);
     let found = improvement_of(&rt, rt.alloc(), league, asked(1, 50_000));
-    let (told, history) = read_legs(&found.text).expect(&rt, "a history");
+    let (reported, history) = read_legs(&found.text).expect(&rt, "a history");
     let least = least_played(&rt, rt.alloc(), history);
-    check_same(&rt, &(least.is_some(), least), &(true, told.least));
+    check_same(&rt, &(least.is_some(), least), &(true, reported.least));
 }

@@ -6,7 +6,7 @@ use super::legs::number_behind;
 use super::{asked, check_same, circle, improvement_of};
 use fixture_board::Board;
 use improvement::{ImprovePlan, LegEnded, Watcher, Written, improve};
-use search::{NoGate, Workplace};
+use search::{NoGate, RunContext};
 use std::alloc::Global;
 use std::process::Abort;
 use std::sync::Wait;
@@ -52,10 +52,10 @@ fn counted<T: Threads + Wait + Sync + Abort>(
     };
     let mut room = vec![in alloc; 0; 400_000].expect(rt, "memory");
     let gate = &NoGate;
-    let workplace = Workplace { rt, alloc, gate };
+    let run_context = RunContext { rt, alloc, gate };
     let league = circle(rt, alloc, 6);
     let mut sink = MemorySink::new(&mut room);
-    let ended = improve(workplace, league, plan, &mut sink, &mut counter);
+    let ended = improve(run_context, league, plan, &mut sink, &mut counter);
     (counter.legs, counter.steps, ended.is_ok())
 }
 
@@ -93,7 +93,7 @@ fn no_leg_begins_once_enough_have_ended(rt: HostRuntime) {
 }
 
 #[test]
-fn legs_that_run_are_told_before_the_end(rt: HostRuntime) {
+fn legs_that_run_are_reported_before_the_end(rt: HostRuntime) {
     let (legs, _, ended) = counted(&rt, rt.alloc(), three(4), 5);
     let is_right = (5..9).contains(&legs);
     check_same(&rt, &(legs, is_right, ended), &(legs, true, true));

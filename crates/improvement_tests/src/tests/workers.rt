@@ -3,7 +3,7 @@
 use super::{asked, check_same, circle, improvement_of};
 use fixture_board::Reply;
 use improvement::{ImprovePlan, NoWatcher, improve};
-use search::{Gate, Progress, Workplace};
+use search::{Gate, Progress, RunContext};
 use std::hint::spin_loop;
 use std::sync::Wait;
 use std::sync::atomic::{AtomicU64, Ordering};
@@ -23,13 +23,13 @@ struct Meet {
 impl Gate for Meet {
     ghost heard = { λ _ _ _ _. Unit {0} };
 
-    ghost was_told = { λ _ _ _. Unit {0} };
+    ghost was_reported = { λ _ _ _. Unit {0} };
 
     fn enter<R: Wait>(&self, _rt: &R, _worker: u32, _made: u32) {}
 
     fn left<R: Wait>(&self, _rt: &R, _worker: u32, _made: u32, _reply: Reply) {}
 
-    fn told<R: Wait>(&self, _rt: &R, _worker: u32, _progress: Progress) {
+    fn reported<R: Wait>(&self, _rt: &R, _worker: u32, _progress: Progress) {
         if self.first.swap(1, Ordering::SeqCst) == 1 {
             self.second.store(1, Ordering::SeqCst);
             return;
@@ -55,13 +55,13 @@ fn two_workers_run_two_legs_at_once(rt: HostRuntime) {
     let alloc = rt.alloc();
     let mut room = vec![in alloc; 0; 400_000].expect(&rt, "memory");
     let mut sink = MemorySink::new(&mut room);
-    let workplace = Workplace {
+    let run_context = RunContext {
         rt: &rt,
         alloc,
         gate,
     };
     let league = circle(&rt, alloc, 6);
-    let ended = improve(workplace, league, asked(2, 60_000), &mut sink, NoWatcher);
+    let ended = improve(run_context, league, asked(2, 60_000), &mut sink, NoWatcher);
     let late = gate.late.load(Ordering::SeqCst);
     check_same(&rt, &(ended.is_ok(), late), &(true, 0));
 }

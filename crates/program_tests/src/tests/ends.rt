@@ -8,7 +8,7 @@ use crate::tests::judged_schedules::FAULTY;
 use crate::tests::samples::{DISTANCES, FIND, NAMED, PLAY, REPORT, START, TABLE};
 use crate::tests::told::{Answer, Case, Command};
 use commands::{
-    NoGate, ProgramFault, Workplace, find_from, league_from, play_from, report_from, start_from,
+    NoGate, ProgramFault, RunContext, find_from, league_from, play_from, report_from, start_from,
 };
 use distance_tables::DistanceFault;
 use league::LeagueFault;
@@ -35,7 +35,7 @@ fn run_from<T: Threads + Wait + Sync, R: Source, W: Sink>(
         Command::Play { room } => play_from(alloc, source, sink, room)?,
         Command::Find { room, plan } => {
             let gate = &NoGate;
-            find_from(Workplace { rt, alloc, gate }, source, sink, room, plan)?;
+            find_from(RunContext { rt, alloc, gate }, source, sink, room, plan)?;
         }
         Command::Report(format) => return Ok(Some(report_from(alloc, source, sink, format)?)),
         Command::League => {

@@ -10,7 +10,7 @@ use crate::tests::progress_lines::{Ticks, last_line};
 use clap::error::ErrorKind::{self, DisplayHelp, UnknownArgument, ValueValidation};
 use command_line::{Job, args};
 use commands::{
-    Extent, ImprovePlan, NoGate, ProgramFault, ProgressLine, Verdict, Workplace, improve,
+    Extent, ImprovePlan, NoGate, ProgramFault, ProgressLine, RunContext, Verdict, improve,
     improve_from, play,
 };
 use league::LeagueFault;
@@ -121,7 +121,7 @@ fn ended<T: Threads + Wait + Sync>(
     let source = MemorySource::new(input.as_bytes());
     let gate = &NoGate;
     let answer = improve(
-        Workplace { rt, alloc, gate },
+        RunContext { rt, alloc, gate },
         source,
         &mut sink,
         by(workers),
@@ -149,7 +149,7 @@ fn judged<T: Threads + Wait + Sync>(
     let source = MemorySource::new(input.as_bytes());
     let gate = &NoGate;
     let verdict = improve(
-        Workplace { rt, alloc, gate },
+        RunContext { rt, alloc, gate },
         source,
         &mut sink,
         by(workers),
@@ -254,7 +254,7 @@ fn tell<C: Clock, W: Sink>(rt: &impl Wait, line: &ProgressLine<'_, C, W>, tellin
             steps: 1,
             least: Some(30),
         };
-        line.told(rt, 0, progress);
+        line.reported(rt, 0, progress);
     }
 }
 
@@ -305,8 +305,8 @@ fn improved_on<T: Threads + Wait + Sync, W: Sink + Send + Drop>(
     let mut source = MemorySource::new(CIRCLE.as_bytes());
     let clock = Ticks::new(Some(250));
     let gate = &ProgressLine::over(&clock, terminal, Extent::Steps(EFFORT));
-    let workplace = Workplace { rt, alloc, gate };
-    improve_from(workplace, &mut source, &mut sink, by(workers))?;
+    let run_context = RunContext { rt, alloc, gate };
+    improve_from(run_context, &mut source, &mut sink, by(workers))?;
     Ok(Vec::from_slice(alloc, sink.held())?)
 }
 

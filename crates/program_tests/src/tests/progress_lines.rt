@@ -3,7 +3,7 @@
 use crate::tests::checks::{check_holds, check_same, check_same_of};
 use crate::tests::circle::CIRCLE;
 use crate::tests::told::{Command, tell};
-use commands::{ProgramFault, ProgressLine, SearchPlan, Workplace, find_from};
+use commands::{ProgramFault, ProgressLine, RunContext, SearchPlan, find_from};
 use fixture_board::{Reply, Why};
 use search::{Gate, Progress};
 use std::alloc::{AllocError, Global};
@@ -76,7 +76,7 @@ fn pauses(rt: &impl Wait, clock: &Ticks, tellings: usize) -> [u32; 4] {
     let mut pauses = [0; 4];
     line.begun(rt, 0);
     for told in 0..tellings {
-        line.told(rt, 0, progress);
+        line.reported(rt, 0, progress);
         pauses[told % 4] = line.pause();
     }
     pauses
@@ -214,7 +214,7 @@ fn tell_all<R: Wait, C: Clock, W: Sink>(
             steps: 4096,
             least: *least,
         };
-        line.told(rt, *worker, progress);
+        line.reported(rt, *worker, progress);
     }
     if showing.ends {
         line.ended(rt);
@@ -262,8 +262,8 @@ fn searched<T: Threads + Wait + Sync, W: Sink + Send + Drop>(
     let mut source = MemorySource::new(input.as_bytes());
     let clock = Ticks::new(Some(1000));
     let gate = &ProgressLine::new(&clock, terminal, PLAN_OF_ONE);
-    let workplace = Workplace { rt, alloc, gate };
-    find_from(workplace, &mut source, &mut sink, ROOM, PLAN_OF_ONE)?;
+    let run_context = RunContext { rt, alloc, gate };
+    find_from(run_context, &mut source, &mut sink, ROOM, PLAN_OF_ONE)?;
     Ok(Vec::from_slice(alloc, sink.held())?)
 }
 
@@ -311,7 +311,7 @@ struct ByHundreds<'a, C, W> {
 impl<C: Clock, W: Sink> Gate for ByHundreds<'_, C, W> {
     ghost heard = { λ _ _ _ _. Unit {0} };
 
-    ghost was_told = { λ _ _ _. Unit {0} };
+    ghost was_reported = { λ _ _ _. Unit {0} };
 
     fn enter<R: Wait>(&self, _rt: &R, _worker: u32, _made: u32) {}
 
@@ -325,8 +325,8 @@ impl<C: Clock, W: Sink> Gate for ByHundreds<'_, C, W> {
         100
     }
 
-    fn told<R: Wait>(&self, rt: &R, worker: u32, progress: Progress) {
-        self.line.told(rt, worker, progress);
+    fn reported<R: Wait>(&self, rt: &R, worker: u32, progress: Progress) {
+        self.line.reported(rt, worker, progress);
     }
 
     fn ended<R: Wait>(&self, rt: &R) {
@@ -362,8 +362,8 @@ fn search_by_hundreds<T: Threads + Wait + Sync, W: Sink + Send + Drop>(
     let clock = Ticks::new(Some(250));
     let line = ProgressLine::new(&clock, terminal, plan);
     let gate = &ByHundreds { line };
-    let workplace = Workplace { rt, alloc, gate };
-    find_from(workplace, &mut source, &mut sink, ROOM, plan)
+    let run_context = RunContext { rt, alloc, gate };
+    find_from(run_context, &mut source, &mut sink, ROOM, plan)
 }
 
 fn check_last_line<T: Threads + Wait + Sync + Abort>(

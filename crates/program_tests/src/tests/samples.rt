@@ -3,7 +3,7 @@
 use crate::tests::circle::{CIRCLE, SHEET};
 use crate::tests::told::Text::{Excerpt, Whole};
 use crate::tests::told::{Case, Command, Text, WRITTEN};
-use commands::{CsvForm, Format, SearchPlan, Separator, Terms, Verdict};
+use commands::{CsvForm, Format, SearchPlan, Separator, Settings, Verdict};
 
 /// The line between a league and a script.
 pub(crate) const SCRIPT: &str = "\nscript\n";
@@ -136,7 +136,7 @@ pub(crate) const PAGE: Case<'_> = (
 );
 
 /// What the league of a table is called.
-pub(crate) const NAMED: Terms<'_> = Terms {
+pub(crate) const NAMED: Settings<'_> = Settings {
     title: Some("Four \"trees\""),
     at_most: None,
     hard_weight: None,

@@ -5,7 +5,7 @@ use crate::tests::circle::CIRCLE;
 use crate::tests::closings::{closing, script};
 use crate::tests::samples::{FIND, NO_STEPS, SCRIPT};
 use crate::tests::told::{Command, NOTHING, check_case, tell};
-use commands::{NoGate, ProgramFault, SearchPlan, Workplace, find};
+use commands::{NoGate, ProgramFault, RunContext, SearchPlan, find};
 use league::LeagueFault;
 use std::alloc::{AllocError, Global};
 use std::process::Abort;
@@ -19,12 +19,12 @@ fn search_without_steps_writes_the_start(rt: HostRuntime) -> Result<(), Fail> {
     let mut room = [0; 1000];
     let mut sink = MemorySink::new(&mut room);
     let source = MemorySource::new(CIRCLE.as_bytes());
-    let workplace = Workplace {
+    let run_context = RunContext {
         rt: &rt,
         alloc: rt.alloc(),
         gate: &NoGate,
     };
-    find(workplace, source, &mut sink, 1024, NO_STEPS)?;
+    find(run_context, source, &mut sink, 1024, NO_STEPS)?;
     let (_, _, _, text) = FIND;
     check_same(&rt, &text.is_told(sink.held()), &true);
     Ok(())

@@ -3,7 +3,8 @@
 use crate::tests::checks::check_same_of;
 use crate::tests::samples::NAMED;
 use commands::{
-    Format, NoGate, ProgramFault, SearchPlan, Verdict, Workplace, find, league, play, report, start,
+    Format, NoGate, ProgramFault, RunContext, SearchPlan, Verdict, find, league, play, report,
+    start,
 };
 use std::alloc::{AllocError, Global};
 use std::process::Abort;
@@ -48,7 +49,7 @@ impl Command {
             Command::Play { room } => play(alloc, source, sink, room)?,
             Command::Find { room, plan } => {
                 let gate = &NoGate;
-                find(Workplace { rt, alloc, gate }, source, sink, room, plan)?;
+                find(RunContext { rt, alloc, gate }, source, sink, room, plan)?;
             }
             Command::Report(format) => return Ok(Some(report(alloc, source, sink, format)?)),
             Command::League => {

@@ -10,7 +10,7 @@ use Rattle.league.specs.declared.rule.Side.{Side}
 use Rattle.league.specs.declared.rule.Side.TheVariants.{Home, Away, Any}
 use Rattle.fixtures.specs.Games.{Games, round_count}
 use Rattle.robinx.specs.Deviations.{over, is_counted, games_in_window, breaks, largest_below}
-use Rattle.robinx.specs.declared.counts.CountedGames.{CountedGames}
+use Rattle.robinx.specs.declared.counted_games.CountedGames.{CountedGames}
 use Rattle.robinx.specs.declared.round_numbers.RoundNumbers.{RoundNumbers}
 
 -- the games that a capacity rule counts, and none for another rule

@@ -3,8 +3,8 @@ use Rattle.std.specs.Prelude.{ℕ, Bool, List}
 use Rattle.streams.specs.Pieces.{pieces_below}
 use Rattle.fixtures.specs.declared.game.Game.{Game}
 use Rattle.fixtures.specs.Games.{round_count}
-use Rattle.schedule_texts.specs.declared.counts.Counted.{Counted}
-use Rattle.schedule_texts.specs.declared.counts.Counted.TheVariants.{Rounds, Guests}
+use Rattle.schedule_texts.specs.declared.counted.Counted.{Counted}
+use Rattle.schedule_texts.specs.declared.counted.Counted.TheVariants.{Rounds, Guests}
 use Rattle.schedule_texts.specs.Faults.{plays, games_in, team_line, receives, games_of_pair, pair_line}
 
 -- ---- what the games of a team are counted by: all of them by round, or those at home by guest

@@ -21,7 +21,7 @@ use Rattle.search.specs.Doors.{Replies}
 use Rattle.search.specs.declared.gates.Progress.{Progress}
 use Rattle.search.specs.declared.workers.Report.{Report}
 use Rattle.search.specs.declared.workers.steps.StepResult.{StepResult}
-use Rattle.search.specs.declared.workers.steps.Trial.{Trial}
+use Rattle.search.specs.declared.workers.steps.Candidate.{Candidate}
 use Rattle.search.specs.declared.workers.steps.StepResult.TheVariants.{Nothing, Accepted, Refused, Full}
 
 -- the slack of step s: at the first step it is all of it, and from each step to the next it falls by one part of as many
@@ -65,39 +65,39 @@ abbrev pub progress_with : Progress → StepResult → Progress
 progress_with p (Accepted cost) = record { steps = p.steps + 1; least = least_with p.least cost }
 progress_with p _ = record { steps = p.steps + 1; least = p.least }
 
--- what there was to tell was told, or it is still to be told
-abbrev pub IsToldBefore : (Progress → Type 0) → (before after : Progress) → Type 0
-IsToldBefore told before after = (after ≡ before) ⊎ (told before × (after ≡ record before { steps = 0 }))
+-- what there was to report was reported, or it is still to be reported
+abbrev pub IsReportedBefore : (Progress → Type 0) → (before after : Progress) → Type 0
+IsReportedBefore reported before after = (after ≡ before) ⊎ (reported before × (after ≡ record before { steps = 0 }))
 
--- what there was to tell was told
-abbrev pub IsTold : (Progress → Type 0) → Progress → Type 0
-IsTold told p = (p.steps ≡ 0) ⊎ told p
+-- what there was to report was reported
+abbrev pub IsReported : (Progress → Type 0) → Progress → Type 0
+IsReported reported p = (p.steps ≡ 0) ⊎ reported p
 
 -- what the reply to a step's proposal makes of the step
-abbrev pub IsToldBy : Reply → StepResult → Type 0
-IsToldBy (Done at cost) told = told ≡ Accepted cost
-IsToldBy (No at reason) told = ((reason ≡ why.Full) × (told ≡ Full)) ⊎ ((reason ≢ why.Full) × (told ≡ Refused))
+abbrev pub IsResultOf : Reply → StepResult → Type 0
+IsResultOf (Done at cost) step_result = step_result ≡ Accepted cost
+IsResultOf (No at reason) step_result = ((reason ≡ why.Full) × (step_result ≡ Full)) ⊎ ((reason ≢ why.Full) × (step_result ≡ Refused))
 
--- a proposal of the trial's move, for this version and with this score as claim
-abbrev pub proposal_of : ℕ → Trial → ℕ → Proposal
-proposal_of version trial score = record { version = version; mv = trial.mv; claim = Some score; slack = trial.slack }
+-- a proposal of the candidate's move, for this version and with this score as claim
+abbrev pub proposal_of : ℕ → Candidate → ℕ → Proposal
+proposal_of version candidate score = record { version = version; mv = candidate.mv; claim = Some score; slack = candidate.slack }
 
 -- what a step may propose: its claim is the score of the copy after the move
-abbrev pub asked_of : LeagueData → Games → ℕ → Trial → Proposal
-asked_of league copy version trial = proposal_of version trial (score_of league (cost_of league (moved copy trial.mv)))
+abbrev pub asked_of : LeagueData → Games → ℕ → Candidate → Proposal
+asked_of league copy version candidate = proposal_of version candidate (score_of league (cost_of league (moved copy candidate.mv)))
 
 -- a reply to the proposal was heard, from a board that may be had, and the step is what it makes of it
 pub record IsAnswered (heard : Reply → Type 0) (may_have : LeagueData → ℕ → Type 0) (caller : ℕ) (seen : List Entry)
-    (proposal : Proposal) (told : StepResult) : Type 0 where
+    (proposal : Proposal) (step_result : StepResult) : Type 0 where
   pub reply : Reply
   pub is_heard : heard reply
-  pub told_is : IsToldBy reply told
+  pub result_is : IsResultOf reply step_result
   pub after : List Entry
   pub replied : Replies may_have caller seen proposal reply after
 
 -- each board that may be had is of this league, if it is said to be
-abbrev pub IsMeasured : Bool → LeagueData → (LeagueData → ℕ → Type 0) → Type 0
-IsMeasured of_boards league may_have = IsTrue of_boards → (other : LeagueData) (room : ℕ) → may_have other room → other ≡ league
+abbrev pub IsScoring : Bool → LeagueData → (LeagueData → ℕ → Type 0) → Type 0
+IsScoring of_boards league may_have = IsTrue of_boards → (other : LeagueData) (room : ℕ) → may_have other room → other ≡ league
 
 -- whether the move would give another round to a game that the league keeps
 abbrev pub moves_kept : LeagueData → Games → Move → Bool
@@ -108,10 +108,10 @@ abbrev pub IsLeftOut : LeagueData → Games → Move → Type 0
 IsLeftOut league g mv = (fault_of g mv ≢ Ok tt) ⊎ (moves_kept league g mv ≡ true)
 
 -- the exchange that the move is, which can be made, and leaves each kept game its round
-abbrev pub IsCandidate : LeagueData → Games → Move → Exchange → Type 0
-IsCandidate league g mv exchange = IsExchangeOf g mv exchange × (moves_kept league g mv ≡ false)
+abbrev pub IsAllowedExchange : LeagueData → Games → Move → Exchange → Type 0
+IsAllowedExchange league g mv exchange = IsExchangeOf g mv exchange × (moves_kept league g mv ≡ false)
 
 -- the cost and the score of the copy
-pub record IsKnown (league : LeagueData) (copy : Games) (cost : Cost) (score : ℕ) : Type 0 where
+pub record IsCopyCost (league : LeagueData) (copy : Games) (cost : Cost) (score : ℕ) : Type 0 where
   pub cost_is : cost ≡ cost_of league copy
   pub score_is : score ≡ score_of league cost

@@ -3,14 +3,14 @@
 ghost use Rattle.std.specs.Prelude.{◌≡◌, ◌+◌, ◌≤◌, [], length, map, All, IfOk, IfSome, vec_len, vec_capacity};
 ghost use Rattle.std.specs.List.{range_with_len};
 ghost use Rattle.std.specs.List.Sorted.{IsStrictlyIncreasing};
-ghost use Rattle.search.specs.within.Crews.{AreStarted, CanStart, IsBack, IsFresh, IsHandle, IsJob, IsOfJob, JobIn};
-ghost use Rattle.search.specs.within.Crews.{JobMeasured, handle_job, handle_number, job_copy, job_number, job_worker, plan_of};
+ghost use Rattle.search.specs.within.RunParts.{AreStarted, CanStart, InputIn, IsBack, IsFresh, IsHandle, IsOfInput, IsWorkerInput};
+ghost use Rattle.search.specs.within.RunParts.{IsScoringFor, handle_input, handle_number, input_copy, input_number, input_worker, plan_of};
 ghost use Rattle.search.specs.Outcomes.{AreCredited, accepted_in};
 ghost use Rattle.search.specs.Heard.{AreOf};
 ghost use Rattle.search.specs.Reports.{IsReport};
 
 use super::SearchPlan;
-use crate::workers::{Means, Measure, Report, WorkerPlan, take_steps};
+use crate::workers::{Context, Report, Scoring, WorkerPlan, take_steps};
 use crate::{Gate, SeatDoor};
 use fixtures::Schedule;
 use league::League;
@@ -23,14 +23,14 @@ use std::{mem, thread};
 /// The parts of a run that its threads share.
 #[derive_where(Clone, Copy)]
 pub(crate) struct Run<'a, R, G> {
-    pub(crate) means: Means<'a, R, G>,
+    pub(crate) context: Context<'a, R, G>,
     pub(crate) shared: &'a Shared,
     pub(crate) plan: SearchPlan,
 }
 
 /// The input of a worker's thread.
 #[derive(Drop)]
-pub(crate) struct Job {
+pub(crate) struct WorkerInput {
     worker: u32,
     seat: Seat,
     copy: Schedule,
@@ -43,26 +43,26 @@ pub(crate) struct Ended {
     seat: Seat,
 }
 
-/// The promise of a worker's thread: it works by the plan and the job that it was given, and its report counts the replies that the
+/// The promise of a worker's thread: it works by the plan and the input that it was given, and its report counts the replies that the
 /// gate heard.
 pub(crate) struct Given<G> {
     plan: SearchPlan,
-    job: Snapshot<Job>,
+    input: Snapshot<WorkerInput>,
     league: Snapshot<League>,
     gate: Snapshot<G>,
 }
 
 impl<G: Gate> Promise<Ended> for Given<G> {
-    ghost use Rattle.search.specs.within.Crews.{IsBack};
+    ghost use Rattle.search.specs.within.RunParts.{IsBack};
 
-    ghost kept_by = { λ p e. IsBack (G.heard p.gate.value) (G.was_told p.gate.value) p.league.value p.plan p.job.value e.report e.seat };
+    ghost kept_by = { λ p e. IsBack (G.heard p.gate.value) (G.was_reported p.gate.value) p.league.value p.plan p.input.value e.report e.seat };
 }
 
 impl<G> Drop for Given<G> {
     fn drop(self) {
         let Given {
             plan: _,
-            job: _,
+            input: _,
             league: _,
             gate: _,
         } = self;
@@ -71,73 +71,73 @@ impl<G> Drop for Given<G> {
 
 pub(crate) type Handle<G> = PromisedHandle<Ended, Given<G>>;
 
-/// A job for each copy, in the order of the workers. Each seat is split from the one before, so their numbers rise. The
+/// An input for each copy, in the order of the workers. Each seat is split from the one before, so their numbers rise. The
 /// last one stays with the run.
 pub(crate) fn seat_all<R: Wait>(
     rt: &R,
     shared: &Shared,
     seat: &mut Seat,
     copies: Vec<Schedule>,
-    mut jobs: Vec<Job>,
-) -> Result<Vec<Job>, SplitFault>
+    mut inputs: Vec<WorkerInput>,
+) -> Result<Vec<WorkerInput>, SplitFault>
     requires seat { IsFresh shared.now seat.old }
-    requires none { jobs.items ≡ [] }
-    requires room { vec_len copies ≤ vec_capacity jobs }
+    requires none { inputs.items ≡ [] }
+    requires room { vec_len copies ≤ vec_capacity inputs }
     requires few { vec_len copies ≤ 16 }
     ensures table { seat.new.table ≡ shared.now }
     ensures setting { seat.new.setting ≡ seat.old.setting }
-    ensures workers { IfOk result (λ v. map job_worker v.items ≡ range_with_len 0 (vec_len copies)) }
-    ensures copies { IfOk result (λ v. map job_copy v.items ≡ copies.items) }
-    ensures in_setting { IfOk result (λ v. All (JobIn seat.old.setting) v.items) }
-    ensures jobs { IfOk result (λ v. All (IsJob shared.now) v.items) }
+    ensures workers { IfOk result (λ v. map input_worker v.items ≡ range_with_len 0 (vec_len copies)) }
+    ensures copies { IfOk result (λ v. map input_copy v.items ≡ copies.items) }
+    ensures in_setting { IfOk result (λ v. All (InputIn seat.old.setting) v.items) }
+    ensures inputs { IfOk result (λ v. All (IsWorkerInput shared.now) v.items) }
     ensures many { IfOk result (λ v. vec_len v ≡ vec_len copies) }
-    ensures rising { IfOk result (λ v. IsStrictlyIncreasing (map job_number v.items)) }
+    ensures rising { IfOk result (λ v. IsStrictlyIncreasing (map input_number v.items)) }
 {
     for copy in copies {
-        let worker = jobs.len() as u32;
+        let worker = inputs.len() as u32;
         let next = shared.split(rt, seat)?;
-        let job = Job {
+        let input = WorkerInput {
             worker,
             seat: mem::replace(seat, next),
             copy,
         };
-        jobs.push_reserved(job);
+        inputs.push_reserved(input);
     }
-    Ok(jobs)
+    Ok(inputs)
 }
 
-/// Starts a thread for each job, until one can't be started, and waits until all that were started have ended. Tells
+/// Starts a thread for each input, until one can't be started, and waits until all that were started have ended. Tells
 /// whether all were.
 pub(crate) fn launch<R: Threads + Wait + Sync, G: Gate + Sync>(
     run: Run<'_, R, G>,
-    jobs: Vec<Job>,
+    inputs: Vec<WorkerInput>,
     handles: Vec<Handle<G>>,
 ) -> (bool, Vec<Handle<G>>)
-    requires { CanStart run.means.measure.of_boards run.means.measure.league.now run.shared.now jobs handles }
-    ensures { AreStarted run.entry.means.gate.now run.entry.means.measure.league.now run.entry.plan run.entry.shared.now jobs result.0 result.1 }
+    requires { CanStart run.context.scoring.of_boards run.context.scoring.league.now run.shared.now inputs handles }
+    ensures { AreStarted run.entry.context.gate.now run.entry.context.scoring.league.now run.entry.plan run.entry.shared.now inputs result.0 result.1 }
 {
     thread::scope(
         thread::scope_env(),
-        run.means.rt,
+        run.context.rt,
         move |scope| -> (bool, Vec<Handle<G>>)
-            requires { CanStart run.means.measure.of_boards run.means.measure.league.now run.shared.now jobs handles }
-            ensures { AreStarted run.entry.means.gate.now run.entry.means.measure.league.now run.entry.plan run.entry.shared.now jobs result.0 result.1 }
-        { start_all(scope, run, jobs, handles) },
+            requires { CanStart run.context.scoring.of_boards run.context.scoring.league.now run.shared.now inputs handles }
+            ensures { AreStarted run.entry.context.gate.now run.entry.context.scoring.league.now run.entry.plan run.entry.shared.now inputs result.0 result.1 }
+        { start_all(scope, run, inputs, handles) },
     )
 }
 
-/// Starts a thread for each job, until one can't be started. Tells whether all were.
+/// Starts a thread for each input, until one can't be started. Tells whether all were.
 fn start_all<'s, E, R: Wait + Sync, G: Gate + Sync>(
     scope: &Scope<'s, E>,
     run: Run<'s, R, G>,
-    jobs: Vec<Job>,
+    inputs: Vec<WorkerInput>,
     mut handles: Vec<Handle<G>>,
 ) -> (bool, Vec<Handle<G>>)
-    requires { CanStart run.means.measure.of_boards run.means.measure.league.now run.shared.now jobs handles }
-    ensures { AreStarted run.entry.means.gate.now run.entry.means.measure.league.now run.entry.plan run.entry.shared.now jobs result.0 result.1 }
+    requires { CanStart run.context.scoring.of_boards run.context.scoring.league.now run.shared.now inputs handles }
+    ensures { AreStarted run.entry.context.gate.now run.entry.context.scoring.league.now run.entry.plan run.entry.shared.now inputs result.0 result.1 }
 {
-    for job in jobs {
-        let Some(handle) = start(scope, run, job) else {
+    for input in inputs {
+        let Some(handle) = start(scope, run, input) else {
             return (false, handles);
         };
         handles.push_reserved(handle);
@@ -149,23 +149,23 @@ fn start_all<'s, E, R: Wait + Sync, G: Gate + Sync>(
 fn start<'s, E, R: Wait + Sync, G: Gate + Sync>(
     scope: &Scope<'s, E>,
     run: Run<'s, R, G>,
-    job: Job,
+    input: WorkerInput,
 ) -> Option<Handle<G>>
-    requires fresh { IsJob run.shared.now job }
-    requires measured { JobMeasured run.means.measure.of_boards run.means.measure.league.now job }
-    ensures handle { IfSome result (IsHandle run.entry.means.gate.now run.entry.means.measure.league.now run.entry.plan run.entry.shared.now) }
-    ensures job { IfSome result (λ h. handle_job h ≡ job) }
+    requires fresh { IsWorkerInput run.shared.now input }
+    requires scoring { IsScoringFor run.context.scoring.of_boards run.context.scoring.league.now input }
+    ensures handle { IfSome result (IsHandle run.entry.context.gate.now run.entry.context.scoring.league.now run.entry.plan run.entry.shared.now) }
+    ensures input { IfSome result (λ h. handle_input h ≡ input) }
 {
     let Run {
-        means,
+        context,
         shared,
         plan,
     } = run;
-    let Means { rt, gate, measure } = means;
-    let Measure { league, of_boards } = measure;
+    let Context { rt, gate, scoring } = context;
+    let Scoring { league, of_boards } = scoring;
     let given = Given {
         plan,
-        job: Snapshot::of(&job),
+        input: Snapshot::of(&input),
         league: Snapshot::of(league),
         gate: Snapshot::of(gate),
     };
@@ -174,47 +174,47 @@ fn start<'s, E, R: Wait + Sync, G: Gate + Sync>(
         .spawn_with(
             given,
             move || -> Ended
-                requires fresh { IsJob shared.now job }
-                requires measured { JobMeasured of_boards league.now job }
-                ensures { IsBack (G.heard gate.entry.now) (G.was_told gate.entry.now) league.entry.now plan job result.report result.seat }
+                requires fresh { IsWorkerInput shared.now input }
+                requires scoring { IsScoringFor of_boards league.now input }
+                ensures { IsBack (G.heard gate.entry.now) (G.was_reported gate.entry.now) league.entry.now plan input result.report result.seat }
             {
-                let measure = Measure { league, of_boards };
-                let means = Means { rt, gate, measure };
+                let scoring = Scoring { league, of_boards };
+                let context = Context { rt, gate, scoring };
                 let run = Run {
-                    means,
+                    context,
                     shared,
                     plan,
                 };
-                work(run, job)
+                work(run, input)
             },
         )
         .ok()
 }
 
-fn work<R: Wait, G: Gate>(run: Run<'_, R, G>, job: Job) -> Ended
-    requires fresh { IsJob run.shared.now job }
-    requires measured { JobMeasured run.means.measure.of_boards run.means.measure.league.now job }
-    ensures { IsBack (G.heard run.entry.means.gate.now) (G.was_told run.entry.means.gate.now)
-        run.entry.means.measure.league.now run.entry.plan job result.report result.seat }
+fn work<R: Wait, G: Gate>(run: Run<'_, R, G>, input: WorkerInput) -> Ended
+    requires fresh { IsWorkerInput run.shared.now input }
+    requires scoring { IsScoringFor run.context.scoring.of_boards run.context.scoring.league.now input }
+    ensures { IsBack (G.heard run.entry.context.gate.now) (G.was_reported run.entry.context.gate.now)
+        run.entry.context.scoring.league.now run.entry.plan input result.report result.seat }
 {
     let Run {
-        means,
+        context,
         shared,
         plan,
     } = run;
-    let plan = plan_of(plan, &job);
-    let Job { seat, mut copy, .. } = job;
+    let plan = plan_of(plan, &input);
+    let WorkerInput { seat, mut copy, .. } = input;
     let mut door = SeatDoor { shared, seat };
-    let report = take_steps(means, &mut door, plan, &mut copy);
+    let report = take_steps(context, &mut door, plan, &mut copy);
     let SeatDoor { shared: _, seat } = door;
     Ended { report, seat }
 }
 
-fn plan_of(plan: SearchPlan, job: &Job) -> WorkerPlan
-    ensures { result ≡ plan_of plan job.now.worker }
+fn plan_of(plan: SearchPlan, input: &WorkerInput) -> WorkerPlan
+    ensures { result ≡ plan_of plan input.now.worker }
 {
     WorkerPlan {
-        worker: job.worker,
+        worker: input.worker,
         seed: plan.seed,
         steps: plan.steps,
         slack: plan.slack,
@@ -229,24 +229,24 @@ pub(crate) fn gather<R: Threads + Wait, G: Gate>(
     mut reports: Vec<Report>,
 ) -> Vec<Report>
     requires table { seat.old.table ≡ run.shared.now }
-    requires handles { All (IsHandle run.means.gate.now run.means.measure.league.now run.plan run.shared.now) handles.items }
+    requires handles { All (IsHandle run.context.gate.now run.context.scoring.league.now run.plan run.shared.now) handles.items }
     requires none { reports.items ≡ [] }
     requires room { vec_len handles ≤ vec_capacity reports }
     ensures table { seat.new.table ≡ run.entry.shared.now }
     ensures setting { seat.new.setting ≡ seat.old.setting }
     ensures many { vec_len result ≡ vec_len handles }
     ensures each { All (IsReport run.entry.plan.steps) result.items }
-    ensures heard { AreOf (IsOfJob (G.heard run.entry.means.gate.now) (G.was_told run.entry.means.gate.now)
-        run.entry.means.measure.league.now run.entry.plan) (map handle_job handles.items) result.items }
+    ensures heard { AreOf (IsOfInput (G.heard run.entry.context.gate.now) (G.was_reported run.entry.context.gate.now)
+        run.entry.context.scoring.league.now run.entry.plan) (map handle_input handles.items) result.items }
     ensures credits { AreCredited (map handle_number handles.items) result.items seat.new.seen }
 {
     for handle in handles {
-        let ended = handle.join(run.means.rt);
+        let ended = handle.join(run.context.rt);
         prove!(ended.report.made <= run.plan.steps);
         run.shared.absorb(seat, ended.seat);
         reports.push_reserved(ended.report);
     }
-    run.means.gate.ended(run.means.rt);
+    run.context.gate.ended(run.context.rt);
     reports
 }
 

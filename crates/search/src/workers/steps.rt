@@ -4,8 +4,8 @@ ghost use Rattle.std.specs.Prelude.{◌≡◌, ◌+◌, ◌^◌, ◌<◌, MatchO
 ghost use Rattle.league.specs.League.{teams};
 ghost use Rattle.costs.specs.Evaluators.{IsEvaluatorAt};
 ghost use Rattle.fixtures.specs.Exchanges.{exchanged_by, IsExchange};
-ghost use Rattle.search.specs.within.Steps.{IsAnswered, IsCandidate, IsKnown, IsLeftOut, IsMeasured, IsProposed};
-ghost use Rattle.search.specs.within.Steps.{IsToldBy, accepted_count, asked_of, least_with, proposal_of};
+ghost use Rattle.search.specs.within.Steps.{IsAllowedExchange, IsAnswered, IsCopyCost, IsLeftOut, IsProposed, IsScoring};
+ghost use Rattle.search.specs.within.Steps.{IsResultOf, accepted_count, asked_of, least_with, proposal_of};
 
 use crate::{Door, Gate};
 use costs::{Attempt, Cost, Evaluator, cost_of, make_within};
@@ -17,7 +17,7 @@ use std::sync::Wait;
 
 /// The league by which costs are counted.
 #[derive(Clone, Copy)]
-pub(crate) struct Measure<'a> {
+pub(crate) struct Scoring<'a> {
     pub(crate) league: &'a League,
     /// Each board that the door may have is known to be of this league.
     pub(crate) of_boards: bool,
@@ -25,16 +25,16 @@ pub(crate) struct Measure<'a> {
 
 /// The context of a worker.
 #[derive_where(Clone, Copy)]
-pub(crate) struct Means<'a, R, G> {
+pub(crate) struct Context<'a, R, G> {
     pub(crate) rt: &'a R,
     /// The gate that its proposals pass.
     pub(crate) gate: &'a G,
-    pub(crate) measure: Measure<'a>,
+    pub(crate) scoring: Scoring<'a>,
 }
 
 /// The cost of a worker's copy.
 #[derive(Clone, Copy)]
-pub(crate) struct Known {
+pub(crate) struct CopyCost {
     /// The board's version that it is a copy of.
     pub(crate) version: u64,
     pub(crate) cost: Cost,
@@ -43,14 +43,14 @@ pub(crate) struct Known {
 
 /// The state of a worker beside its copy, from one step to the next.
 #[derive(Drop)]
-pub(crate) struct Kept {
-    pub(crate) known: Known,
+pub(crate) struct WorkerState {
+    pub(crate) copy_cost: CopyCost,
     pub(crate) evaluator: Evaluator,
 }
 
 /// The move that a step tries, and how many proposals the worker made before.
 #[derive(Clone, Copy)]
-pub(crate) struct Trial {
+pub(crate) struct Candidate {
     pub(crate) worker: u32,
     pub(crate) made: u32,
     pub(crate) slack: u64,
@@ -70,27 +70,27 @@ pub(crate) enum StepResult {
 
 /// An exchange that is made on the copy, and what the copy is with it.
 #[derive(Clone, Copy)]
-struct Made<'a> {
+struct Proposed<'a> {
     exchange: &'a Exchange,
     cost: Cost,
     score: u64,
 }
 
-/// Looks. What the copy costs is what the look told if the board is of this league, and is counted otherwise.
+/// Looks. What the copy costs is what the look showed if the board is of this league, and is counted otherwise.
 pub(crate) fn refresh<R: Wait, D: Door>(
     rt: &R,
     door: &mut D,
-    measure: Measure<'_>,
+    scoring: Scoring<'_>,
     copy: &mut Schedule,
-) -> Known
-    requires same_size { teams measure.league.now ≡ copy.old.teams }
-    requires measured { IsMeasured measure.of_boards measure.league.now (D.may_have door.old) }
+) -> CopyCost
+    requires same_size { teams scoring.league.now ≡ copy.old.teams }
+    requires scoring { IsScoring scoring.of_boards scoring.league.now (D.may_have door.old) }
     ensures same_size { copy.new.teams ≡ copy.old.teams }
-    ensures known { IsKnown measure.entry.league.now copy.new result.cost result.score }
+    ensures copy_cost { IsCopyCost scoring.entry.league.now copy.new result.cost result.score }
     ensures counted { D.granted door.new ≡ D.granted door.old }
     ensures stays { D.stays door.old door.new }
 {
-    let Measure { league, of_boards } = measure;
+    let Scoring { league, of_boards } = scoring;
     prove_eq!(league.teams(), copy.teams());
     let seen = door.look(rt, copy);
     let cost = if of_boards {
@@ -98,109 +98,109 @@ pub(crate) fn refresh<R: Wait, D: Door>(
     } else {
         cost_of(copy, league)
     };
-    Known {
+    CopyCost {
         version: seen.version,
         cost,
         score: cost.score(league),
     }
 }
 
-impl Kept {
+impl WorkerState {
     ghost use Rattle.std.specs.Prelude.{◌≡◌};
     ghost use Rattle.league.specs.League.{teams};
     ghost use Rattle.costs.specs.Evaluators.{IsEvaluatorAt, IsEvaluatorOf};
-    ghost use Rattle.search.specs.within.Steps.{IsKnown, IsMeasured};
+    ghost use Rattle.search.specs.within.Steps.{IsCopyCost, IsScoring};
 
     /// Looks. What was counted of the copy before serves no more.
     fn refresh<R: Wait, D: Door>(
         &mut self,
         rt: &R,
         door: &mut D,
-        measure: Measure<'_>,
+        scoring: Scoring<'_>,
         copy: &mut Schedule,
     )
-        requires same_size { teams measure.league.now ≡ copy.old.teams }
-        requires measured { IsMeasured measure.of_boards measure.league.now (D.may_have door.old) }
-        requires evaluator { IsEvaluatorOf measure.league.now.rules self.old.evaluator }
+        requires same_size { teams scoring.league.now ≡ copy.old.teams }
+        requires scoring { IsScoring scoring.of_boards scoring.league.now (D.may_have door.old) }
+        requires evaluator { IsEvaluatorOf scoring.league.now.rules self.old.evaluator }
         ensures same_size { copy.new.teams ≡ copy.old.teams }
-        ensures known { IsKnown measure.entry.league.now copy.new self.new.known.cost self.new.known.score }
-        ensures evaluator { IsEvaluatorAt measure.entry.league.now copy.new self.new.evaluator }
+        ensures copy_cost { IsCopyCost scoring.entry.league.now copy.new self.new.copy_cost.cost self.new.copy_cost.score }
+        ensures evaluator { IsEvaluatorAt scoring.entry.league.now copy.new self.new.evaluator }
         ensures counted { D.granted door.new ≡ D.granted door.old }
         ensures stays { D.stays door.old door.new }
     {
         self.evaluator.forget();
-        self.known = refresh(rt, door, measure, copy);
+        self.copy_cost = refresh(rt, door, scoring, copy);
     }
 }
 
 /// Tries a move, and proposes it if the slack lets it pass and the copy is still the board's schedule.
 pub(crate) fn step<R: Wait, D: Door, G: Gate>(
-    means: Means<'_, R, G>,
+    context: Context<'_, R, G>,
     door: &mut D,
     copy: &mut Schedule,
-    kept: &mut Kept,
-    trial: Trial,
+    state: &mut WorkerState,
+    candidate: Candidate,
 ) -> StepResult
-    requires same_size { teams means.measure.league.now ≡ copy.old.teams }
-    requires measured { IsMeasured means.measure.of_boards means.measure.league.now (D.may_have door.old) }
-    requires known { IsKnown means.measure.league.now copy.old kept.old.known.cost kept.old.known.score }
-    requires evaluator { IsEvaluatorAt means.measure.league.now copy.old kept.old.evaluator }
+    requires same_size { teams context.scoring.league.now ≡ copy.old.teams }
+    requires scoring { IsScoring context.scoring.of_boards context.scoring.league.now (D.may_have door.old) }
+    requires copy_cost { IsCopyCost context.scoring.league.now copy.old state.old.copy_cost.cost state.old.copy_cost.score }
+    requires evaluator { IsEvaluatorAt context.scoring.league.now copy.old state.old.evaluator }
     requires granted { D.granted door.old < 2 ^ 63 }
     ensures same_size { copy.new.teams ≡ copy.old.teams }
-    ensures known { IsKnown means.entry.measure.league.now copy.new kept.new.known.cost kept.new.known.score }
-    ensures evaluator { IsEvaluatorAt means.entry.measure.league.now copy.new kept.new.evaluator }
+    ensures copy_cost { IsCopyCost context.entry.scoring.league.now copy.new state.new.copy_cost.cost state.new.copy_cost.score }
+    ensures evaluator { IsEvaluatorAt context.entry.scoring.league.now copy.new state.new.evaluator }
     ensures counted { D.granted door.new ≡ D.granted door.old + accepted_count result }
-    ensures heard { IsProposed result → IsAnswered (G.heard means.entry.gate.now trial.worker trial.made)
+    ensures heard { IsProposed result → IsAnswered (G.heard context.entry.gate.now candidate.worker candidate.made)
         (D.may_have door.old) (D.caller door.old) (D.seen door.old)
-        (asked_of means.entry.measure.league.now copy.old kept.old.known.version trial) result }
+        (asked_of context.entry.scoring.league.now copy.old state.old.copy_cost.version candidate) result }
     ensures stays { D.stays door.old door.new }
 {
-    let Means { rt, gate, measure } = means;
-    let Some(exchange) = candidate(copy, measure.league, trial.mv) else {
+    let Context { rt, gate, scoring } = context;
+    let Some(exchange) = allowed_exchange(copy, scoring.league, candidate.mv) else {
         return StepResult::Nothing;
     };
     let attempt = Attempt {
         exchange: &exchange,
-        known: kept.known.cost,
-        weight: measure.league.hard_weight(),
-        most: kept.known.score.saturating_add(trial.slack),
+        known: state.copy_cost.cost,
+        weight: scoring.league.hard_weight(),
+        most: state.copy_cost.score.saturating_add(candidate.slack),
     };
-    let Some(cost) = make_within(copy, measure.league, &mut kept.evaluator, &attempt) else {
+    let Some(cost) = make_within(copy, scoring.league, &mut state.evaluator, &attempt) else {
         return StepResult::Nothing;
     };
-    let made = Made {
+    let proposed = Proposed {
         exchange: &exchange,
         cost,
-        score: cost.score(measure.league),
+        score: cost.score(scoring.league),
     };
-    if door.front(rt) != kept.known.version {
+    if door.front(rt) != state.copy_cost.version {
         exchange.make(copy);
-        kept.refresh(rt, door, measure, copy);
+        state.refresh(rt, door, scoring, copy);
         return StepResult::Nothing;
     }
-    gate.enter(rt, trial.worker, trial.made);
-    let reply = door.propose(rt, proposal_of(kept.known, trial, made.score));
-    gate.left(rt, trial.worker, trial.made, reply);
-    settle(means, door, copy, kept, made, reply)
+    gate.enter(rt, candidate.worker, candidate.made);
+    let reply = door.propose(rt, proposal_of(state.copy_cost, candidate, proposed.score));
+    gate.left(rt, candidate.worker, candidate.made, reply);
+    settle(context, door, copy, state, proposed, reply)
 }
 
-fn proposal_of(known: Known, trial: Trial, score: u64) -> Proposal
-    ensures { result ≡ proposal_of known.version trial score }
+fn proposal_of(copy_cost: CopyCost, candidate: Candidate, score: u64) -> Proposal
+    ensures { result ≡ proposal_of copy_cost.version candidate score }
 {
     Proposal {
-        version: known.version,
-        mv: trial.mv,
+        version: copy_cost.version,
+        mv: candidate.mv,
         claim: Some(score),
-        slack: trial.slack,
+        slack: candidate.slack,
     }
 }
 
 /// The exchange that a drawn move is, unless it can't be made or would give a game another round that the league keeps.
 // a call would copy the exchange, in each step
 #[inline(always)]
-fn candidate(copy: &Schedule, league: &League, mv: Move) -> Option<Exchange>
+fn allowed_exchange(copy: &Schedule, league: &League, mv: Move) -> Option<Exchange>
     requires { teams league.now ≡ copy.now.teams }
-    ensures { MatchOption result (IsLeftOut league.now copy.now mv) (IsCandidate league.now copy.now mv) }
+    ensures { MatchOption result (IsLeftOut league.now copy.now mv) (IsAllowedExchange league.now copy.now mv) }
 {
     if let Err(_) = check(copy, mv) {
         return None;
@@ -214,48 +214,48 @@ fn candidate(copy: &Schedule, league: &League, mv: Move) -> Option<Exchange>
 
 /// Keeps the move that was proposed, or withdraws it, and looks if the board has gone on.
 fn settle<R: Wait, D: Door, G>(
-    means: Means<'_, R, G>,
+    context: Context<'_, R, G>,
     door: &mut D,
     copy: &mut Schedule,
-    kept: &mut Kept,
-    made: Made<'_>,
+    state: &mut WorkerState,
+    proposed: Proposed<'_>,
     reply: Reply,
 ) -> StepResult
-    requires same_size { teams means.measure.league.now ≡ copy.old.teams }
-    requires measured { IsMeasured means.measure.of_boards means.measure.league.now (D.may_have door.old) }
-    requires again { IsExchange copy.old made.exchange.now }
-    requires made { IsKnown means.measure.league.now copy.old made.cost made.score }
-    requires before { IsKnown means.measure.league.now (exchanged_by copy.old made.exchange.now) kept.old.known.cost kept.old.known.score }
-    requires evaluator { IsEvaluatorAt means.measure.league.now copy.old kept.old.evaluator }
+    requires same_size { teams context.scoring.league.now ≡ copy.old.teams }
+    requires scoring { IsScoring context.scoring.of_boards context.scoring.league.now (D.may_have door.old) }
+    requires again { IsExchange copy.old proposed.exchange.now }
+    requires proposed { IsCopyCost context.scoring.league.now copy.old proposed.cost proposed.score }
+    requires before { IsCopyCost context.scoring.league.now (exchanged_by copy.old proposed.exchange.now) state.old.copy_cost.cost state.old.copy_cost.score }
+    requires evaluator { IsEvaluatorAt context.scoring.league.now copy.old state.old.evaluator }
     ensures same_size { copy.new.teams ≡ copy.old.teams }
-    ensures known { IsKnown means.entry.measure.league.now copy.new kept.new.known.cost kept.new.known.score }
-    ensures evaluator { IsEvaluatorAt means.entry.measure.league.now copy.new kept.new.evaluator }
-    ensures told { IsToldBy reply result }
+    ensures copy_cost { IsCopyCost context.entry.scoring.league.now copy.new state.new.copy_cost.cost state.new.copy_cost.score }
+    ensures evaluator { IsEvaluatorAt context.entry.scoring.league.now copy.new state.new.evaluator }
+    ensures by_reply { IsResultOf reply result }
     ensures counted { D.granted door.new ≡ D.granted door.old }
     ensures stays { D.stays door.old door.new }
 {
-    let Means { rt, measure, .. } = means;
+    let Context { rt, scoring, .. } = context;
     match reply {
         Reply::Done { at, cost } => {
-            if kept.known.version.checked_add(1) == Some(at) {
-                kept.known = Known {
+            if state.copy_cost.version.checked_add(1) == Some(at) {
+                state.copy_cost = CopyCost {
                     version: at,
-                    cost: made.cost,
-                    score: made.score,
+                    cost: proposed.cost,
+                    score: proposed.score,
                 };
             } else {
-                kept.refresh(rt, door, measure, copy);
+                state.refresh(rt, door, scoring, copy);
             }
             StepResult::Accepted(cost)
         }
         Reply::No { at, why } => {
-            made.exchange.make(copy);
-            kept.evaluator.forget();
+            proposed.exchange.make(copy);
+            state.evaluator.forget();
             if why == Why::Full {
                 return StepResult::Full;
             }
-            if at != kept.known.version {
-                kept.refresh(rt, door, measure, copy);
+            if at != state.copy_cost.version {
+                state.refresh(rt, door, scoring, copy);
             }
             StepResult::Refused
         }

@@ -6,7 +6,7 @@ use crate::tests::boards::board;
 use crate::tests::checks::{check_holds, check_same};
 use fixture_board::Reply;
 use league::circular;
-use search::{Gate, Outcome, Progress, SearchPlan, Workplace, run_with};
+use search::{Gate, Outcome, Progress, RunContext, SearchPlan, run_with};
 use std::alloc::Global;
 use std::process::Abort;
 use std::sync::Wait;
@@ -23,7 +23,7 @@ impl Gate for Granting {
 
     ghost heard = { λ _ _ _ reply. done_count reply ≡ 1 };
 
-    ghost was_told = { λ _ _ _. Unit {0} };
+    ghost was_reported = { λ _ _ _. Unit {0} };
 
     fn enter<R: Wait>(&self, _rt: &R, _worker: u32, _made: u32) {}
 
@@ -34,7 +34,7 @@ impl Gate for Granting {
         }
     }
 
-    fn told<R: Wait>(&self, _rt: &R, _worker: u32, _progress: Progress) {}
+    fn reported<R: Wait>(&self, _rt: &R, _worker: u32, _progress: Progress) {}
 }
 
 /// A run through that gate on the circle of four teams. Its reports count no refusal, as each counts what the gate heard.
@@ -48,7 +48,7 @@ fn granted<R: Threads + Wait + Sync>(
     let league = circular(alloc, 4)?;
     let board = board(alloc, 4, 1024)?;
     let gate = &Granting;
-    match run_with(Workplace { rt, alloc, gate }, &league, board, plan) {
+    match run_with(RunContext { rt, alloc, gate }, &league, board, plan) {
         Ok(outcome) => Ok(outcome),
         Err(refused) => Err(refused.why.into()),
     }

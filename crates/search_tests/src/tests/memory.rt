@@ -6,7 +6,7 @@ use crate::tests::checks::check_same;
 use crate::tests::searches::{AskedRun, searched, searched_with};
 use fixture_board::Board;
 use league::{League, circular};
-use search::{NoGate, Outcome, RunFault, RunRefused, SearchPlan, Workplace, run, run_with};
+use search::{NoGate, Outcome, RunContext, RunFault, RunRefused, SearchPlan, run, run_with};
 use std::alloc::Global;
 use std::process::Abort;
 use std::sync::Wait;
@@ -38,7 +38,7 @@ fn search<R: Threads + Wait + Sync>(
 {
     if has_gate {
         let gate = &NoGate;
-        run_with(Workplace { rt, alloc, gate }, league, board, PLAN)
+        run_with(RunContext { rt, alloc, gate }, league, board, PLAN)
     } else {
         run(rt, alloc, league, board, PLAN)
     }

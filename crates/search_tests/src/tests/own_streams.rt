@@ -47,7 +47,7 @@ struct Queue {
 impl Gate for Queue {
     ghost heard = { λ _ _ _ _. Unit {0} };
 
-    ghost was_told = { λ _ _ _. Unit {0} };
+    ghost was_reported = { λ _ _ _. Unit {0} };
 
     fn enter<R: Wait>(&self, rt: &R, worker: u32, made: u32) {
         if made != 0 {
@@ -64,7 +64,7 @@ impl Gate for Queue {
 
     fn left<R: Wait>(&self, _rt: &R, _worker: u32, _made: u32, _reply: Reply) {}
 
-    fn told<R: Wait>(&self, rt: &R, worker: u32, _progress: Progress) {
+    fn reported<R: Wait>(&self, rt: &R, worker: u32, _progress: Progress) {
         self.line.lock(rt).next = worker.saturating_add(1);
         self.changed.notify_all();
     }

@@ -122,7 +122,7 @@ pub(crate) struct Passed<'a> {
 impl Gate for Passed<'_> {
     ghost heard = { λ _ _ _ _. Unit {0} };
 
-    ghost was_told = { λ _ _ _. Unit {0} };
+    ghost was_reported = { λ _ _ _. Unit {0} };
 
     fn enter<R: Wait>(&self, rt: &R, worker: u32, made: u32) {
         let _ = writeln!(self.log.lock(rt), "enter {worker} {made}");
@@ -132,5 +132,5 @@ impl Gate for Passed<'_> {
         let _ = writeln!(self.log.lock(rt), "left {worker} {made}");
     }
 
-    fn told<R: Wait>(&self, _rt: &R, _worker: u32, _progress: Progress) {}
+    fn reported<R: Wait>(&self, _rt: &R, _worker: u32, _progress: Progress) {}
 }

@@ -67,7 +67,7 @@ impl Meet {
 impl Gate for Meet {
     ghost heard = { λ _ _ _ _. Unit {0} };
 
-    ghost was_told = { λ _ _ _. Unit {0} };
+    ghost was_reported = { λ _ _ _. Unit {0} };
 
     fn enter<R: Wait>(&self, _rt: &R, worker: u32, made: u32) {
         if made != 0 {
@@ -90,7 +90,7 @@ impl Gate for Meet {
 
     fn left<R: Wait>(&self, _rt: &R, _worker: u32, _made: u32, _reply: Reply) {}
 
-    fn told<R: Wait>(&self, _rt: &R, _worker: u32, _progress: Progress) {}
+    fn reported<R: Wait>(&self, _rt: &R, _worker: u32, _progress: Progress) {}
 }
 
 /// Both of two workers propose, and each meets the other at the gate.

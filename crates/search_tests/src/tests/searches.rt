@@ -4,7 +4,7 @@ ghost use Rattle.std.specs.Prelude.{◌≡◌, length, IfOk};
 
 use crate::tests::boards::board;
 use league::circular;
-use search::{Gate, Outcome, SearchPlan, Workplace, run, run_with};
+use search::{Gate, Outcome, RunContext, SearchPlan, run, run_with};
 use std::alloc::Global;
 use std::sync::Wait;
 use std::test::Fail;
@@ -45,7 +45,7 @@ pub(crate) fn searched_with<R: Threads + Wait + Sync, G: Gate + Sync>(
 {
     let league = circular(alloc, asked.teams)?;
     let board = board(alloc, asked.teams, asked.room)?;
-    match run_with(Workplace { rt, alloc, gate }, &league, board, asked.plan) {
+    match run_with(RunContext { rt, alloc, gate }, &league, board, asked.plan) {
         Ok(outcome) => Ok(outcome),
         Err(refused) => Err(refused.why.into()),
     }

@@ -40,7 +40,7 @@ struct Scene {
     beginning: Option<Beginning>,
     asked: &'static [Asked],
     /// How many proposals the worker made, and how many of them were accepted and refused.
-    told: [u32; 3],
+    counts: [u32; 3],
 }
 
 /// Four teams on a board with ample room.
@@ -54,7 +54,7 @@ const OF_FOUR: Scene = Scene {
     change: None,
     beginning: None,
     asked: &[],
-    told: [0; 3],
+    counts: [0; 3],
 };
 
 const EXCHANGE: Change = Change::Shift(Move::Rounds { k: 0, l: 1 });
@@ -85,7 +85,7 @@ const ALONE: Scene = Scene {
         Turn("5 PartRounds { i: 4, k: 4, l: 9 } claim Some(92) slack 31 answer Done 6"),
         Turn("6 Rounds { k: 9, l: 8 } claim Some(90) slack 25 answer Done 7"),
     ],
-    told: [7, 7, 0],
+    counts: [7, 7, 0],
     ..OF_FOUR
 };
 
@@ -99,7 +99,7 @@ const GONE_ON: Scene = Scene {
         Look(2),
         Turn("2 PartTeams { i: 1, j: 2, k: 5 } claim Some(26) slack 2 answer Done 3"),
     ],
-    told: [2, 2, 0],
+    counts: [2, 2, 0],
     ..OF_FOUR
 };
 
@@ -114,7 +114,7 @@ const GRANTED_LATER: Scene = Scene {
         Turn("2 Homes { i: 1, j: 0 } claim Some(26) slack 2 answer Done 3"),
         Turn("3 PartTeams { i: 1, j: 2, k: 5 } claim Some(26) slack 1 answer Done 4"),
     ],
-    told: [3, 3, 0],
+    counts: [3, 3, 0],
     ..OF_FOUR
 };
 
@@ -131,7 +131,7 @@ const REFUSED_LATER: Scene = Scene {
         Turn("1 Homes { i: 2, j: 3 } claim Some(26) slack 0 answer Done 2"),
         Turn("2 Rounds { k: 3, l: 1 } claim Some(26) slack 0 answer Done 3"),
     ],
-    told: [3, 2, 1],
+    counts: [3, 2, 1],
     ..OF_FOUR
 };
 
@@ -152,7 +152,7 @@ const GAME_PINNED: Scene = Scene {
         Turn("7 Homes { i: 0, j: 3 } claim Some(24) slack 2 answer Pinned 7"),
         Turn("7 Teams { i: 2, j: 1 } claim Some(26) slack 1 answer Done 8"),
     ],
-    told: [9, 7, 2],
+    counts: [9, 7, 2],
     ..OF_FOUR
 };
 
@@ -166,7 +166,7 @@ const FULL: Scene = Scene {
         Turn("1 Homes { i: 1, j: 0 } claim Some(24) slack 3 answer Done 2"),
         Turn("2 PartTeams { i: 1, j: 2, k: 5 } claim Some(24) slack 3 answer Full 2"),
     ],
-    told: [3, 2, 1],
+    counts: [3, 2, 1],
     ..OF_FOUR
 };
 
@@ -191,7 +191,7 @@ const GAMES_KEPT: Scene = Scene {
         Turn("4 PartRounds { i: 1, k: 8, l: 7 } claim Some(96) slack 16 answer Done 5"),
         Turn("5 Homes { i: 1, j: 3 } claim Some(101) slack 8 answer Done 6"),
     ],
-    told: [6, 6, 0],
+    counts: [6, 6, 0],
     ..OF_FOUR
 };
 
@@ -213,7 +213,7 @@ const KEPT_GAME_UNPINNED: Scene = Scene {
         Turn("2 Rounds { k: 2, l: 1 } claim Some(29) slack 33 answer Done 3"),
         Turn("3 Rounds { k: 5, l: 4 } claim Some(34) slack 16 answer Done 4"),
     ],
-    told: [3, 3, 0],
+    counts: [3, 3, 0],
     ..OF_FOUR
 };
 
@@ -288,8 +288,8 @@ fn recorded<R: Wait>(rt: &R, alloc: Global, scene: &Scene) -> Result<(String, Re
 fn check_scene<R: Abort + Wait>(rt: &R, alloc: Global, scene: &Scene) -> Result<(), Fail> {
     let (asked, report) = recorded(rt, alloc, scene)?;
     check_same(rt, &asked, &lines_of(alloc, scene)?);
-    let told = [report.made, report.accepted, report.refused];
-    check_same(rt, &told, &scene.told);
+    let counts = [report.made, report.accepted, report.refused];
+    check_same(rt, &counts, &scene.counts);
     Ok(())
 }
 

@@ -93,8 +93,8 @@ const TEXTS: &[(RunFault, &str)] = &[
 ];
 
 fn check_text(rt: &impl Abort, alloc: Global, fault: RunFault, text: &str) -> Result<(), Fail> {
-    let told = format!(in alloc; "{fault}")?;
-    check_same(rt, &told.as_str(), &text);
+    let reported = format!(in alloc; "{fault}")?;
+    check_same(rt, &reported.as_str(), &text);
     Ok(())
 }
 

@@ -8,8 +8,8 @@ use Rattle.league.specs.League.{LeagueData, distance}
 use Rattle.fixtures.specs.Games.{Games, round_count}
 use Rattle.fixtures.specs.Edits.{exchanged}
 use Rattle.tours.specs.Tours.{tour, leg}
-use Rattle.tours.specs.within.Told.{in_rounds, leg_told}
-use Rattle.tours.proofs.exchanged_legs.TeamsTold.{at_round, told_out, told_first, told_second}
+use Rattle.tours.specs.within.Delta.{in_rounds, leg_predicted}
+use Rattle.tours.proofs.exchanged_legs.TeamsDelta.{at_round, delta_out, delta_first, delta_second}
 
 -- two teams have a round
 pub some_round : (n i j : ℕ) → i < n → j < n → i ≢ j → 0 < round_count n
@@ -19,14 +19,14 @@ some_round n i j in_i in_j distinct = elim (cases_lt 1 n) [
 ]
 
 -- the first legs, where the first round is in the set
-pub told_at_start : (l : LeagueData) (g : Games) (i j : ℕ) (rounds : ℕ → Bool) → 0 < round_count g.teams → rounds 0 ≡ true →
+pub delta_at_start : (l : LeagueData) (g : Games) (i j : ℕ) (rounds : ℕ → Bool) → 0 < round_count g.teams → rounds 0 ≡ true →
     distance l (get_or (tour g j) 0 0) (exchanged i j (get_or (tour g i) 1 0)) +
     distance l (get_or (tour g i) 0 0) (exchanged i j (get_or (tour g j) 1 0)) ≡
-    leg_told l g i j rounds j 0 + leg_told l g i j rounds i 0
-told_at_start l g i j rounds some is =
+    leg_predicted l g i j rounds j 0 + leg_predicted l g i j rounds i 0
+delta_at_start l g i j rounds some is =
     ap₂ (λ x y. x + y)
-    (ap₂ (distance l) (sym (told_out g i j rounds j 0 refl)) (sym (told_second g i j rounds 1 first_in)))
-    (ap₂ (distance l) (sym (told_out g i j rounds i 0 refl)) (sym (told_first g i j rounds 1 first_in)))
+    (ap₂ (distance l) (sym (delta_out g i j rounds j 0 refl)) (sym (delta_second g i j rounds 1 first_in)))
+    (ap₂ (distance l) (sym (delta_out g i j rounds i 0 refl)) (sym (delta_first g i j rounds 1 first_in)))
   where
     first_in : in_rounds g rounds 1 ≡ true
     first_in = at_round 1 (round_count g.teams) (rounds 0) (omega arith) some ∙ is
@@ -79,24 +79,24 @@ module _ (l : LeagueData) (symmetric : (a b : ℕ) → distance l a b ≡ distan
   now_second =
       ap (λ k. distance l (at j (s + 1)) (at j k) + distance l (at i (s + 1)) (at i k)) (sym two_on)
 
-  pub told_at_first : rounds s ≡ true → rounds (s + 1) ≡ false →
+  pub delta_at_first : rounds s ≡ true → rounds (s + 1) ≡ false →
       distance l (at j (s + 2)) (exchanged i j (at i (s + 1))) + distance l (at i (s + 2)) (exchanged i j (at j (s + 1))) ≡
-      leg_told l g i j rounds j (s + 1) + leg_told l g i j rounds i (s + 1)
-  told_at_first is out =
+      leg_predicted l g i j rounds j (s + 1) + leg_predicted l g i j rounds i (s + 1)
+  delta_at_first is out =
       ap₂ (λ x y. x + y)
       (symmetric (at j (s + 2)) (exchanged i j (at i (s + 1))) ∙
-      ap₂ (distance l) (sym (told_second g i j rounds (s + 1) (here ∙ is)))
-      (ap (at j) (sym two_on) ∙ sym (told_out g i j rounds j (s + 1 + 1) (next_out out))))
+      ap₂ (distance l) (sym (delta_second g i j rounds (s + 1) (here ∙ is)))
+      (ap (at j) (sym two_on) ∙ sym (delta_out g i j rounds j (s + 1 + 1) (next_out out))))
       (symmetric (at i (s + 2)) (exchanged i j (at j (s + 1))) ∙
-      ap₂ (distance l) (sym (told_first g i j rounds (s + 1) (here ∙ is)))
-      (ap (at i) (sym two_on) ∙ sym (told_out g i j rounds i (s + 1 + 1) (next_out out))))
+      ap₂ (distance l) (sym (delta_first g i j rounds (s + 1) (here ∙ is)))
+      (ap (at i) (sym two_on) ∙ sym (delta_out g i j rounds i (s + 1 + 1) (next_out out))))
 
-  pub told_at_second : rounds s ≡ false → s + 1 < round_count g.teams → rounds (s + 1) ≡ true →
+  pub delta_at_second : rounds s ≡ false → s + 1 < round_count g.teams → rounds (s + 1) ≡ true →
       distance l (at j (s + 1)) (exchanged i j (at i (s + 2))) + distance l (at i (s + 1)) (exchanged i j (at j (s + 2))) ≡
-      leg_told l g i j rounds j (s + 1) + leg_told l g i j rounds i (s + 1)
-  told_at_second out in_next is =
+      leg_predicted l g i j rounds j (s + 1) + leg_predicted l g i j rounds i (s + 1)
+  delta_at_second out in_next is =
       ap₂ (λ x y. x + y)
-      (ap₂ (distance l) (sym (told_out g i j rounds j (s + 1) (here ∙ out)))
-      (ap (λ k. exchanged i j (at i k)) (sym two_on) ∙ sym (told_second g i j rounds (s + 1 + 1) (next_in in_next is))))
-      (ap₂ (distance l) (sym (told_out g i j rounds i (s + 1) (here ∙ out)))
-      (ap (λ k. exchanged i j (at j k)) (sym two_on) ∙ sym (told_first g i j rounds (s + 1 + 1) (next_in in_next is))))
+      (ap₂ (distance l) (sym (delta_out g i j rounds j (s + 1) (here ∙ out)))
+      (ap (λ k. exchanged i j (at i k)) (sym two_on) ∙ sym (delta_second g i j rounds (s + 1 + 1) (next_in in_next is))))
+      (ap₂ (distance l) (sym (delta_out g i j rounds i (s + 1) (here ∙ out)))
+      (ap (λ k. exchanged i j (at j k)) (sym two_on) ∙ sym (delta_first g i j rounds (s + 1 + 1) (next_in in_next is))))

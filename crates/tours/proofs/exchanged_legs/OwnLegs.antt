@@ -19,10 +19,10 @@ use Rattle.fixtures.proofs.ForCallers.{exchanged_first, exchanged_second}
 use Rattle.tours.specs.Tours.{leg_count, leg}
 use Rattle.tours.specs.Parts.{touches_leg}
 use Rattle.tours.specs.within.Walked.{part_of}
-use Rattle.tours.specs.within.Told.{stop_told, leg_told, leg_turned, AreTurns}
+use Rattle.tours.specs.within.Delta.{stop_predicted, leg_predicted, leg_turned, AreTurns}
 use Rattle.tours.proofs.stops.Stops.{tour_at_round}
 use Rattle.tours.proofs.meetings.Opponents.{opponent_in}
-use Rattle.tours.proofs.exchanged_legs.TeamsTold.{at_round, unmoved, meets_neither, of_first, of_second}
+use Rattle.tours.proofs.exchanged_legs.TeamsDelta.{at_round, unmoved, meets_neither, of_first, of_second}
 
 -- the legs of both, the first and those that come after a round
 
@@ -97,11 +97,11 @@ one_leg edge false false turn_j turn_i lj li tj ti xj xi is out_j out_i turned s
 
 -- whole sums
 
-all_legs : (told now told_first now_first told_rest now_rest part_now part_told sums_now sums_told : ℕ) →
-    told ≡ told_first + told_rest → now ≡ now_first + now_rest → told_rest + part_now ≡ now_rest + part_told →
-    part_now ≡ sums_now → part_told ≡ sums_told →
-    told + (now_first + sums_now) ≡ now + (told_first + sums_told)
-all_legs told now told_first now_first told_rest now_rest part_now part_told sums_now sums_told a b c d e = omega arith
+all_legs : (delta now delta_first now_first delta_rest now_rest part_now part_delta sums_now sums_delta : ℕ) →
+    delta ≡ delta_first + delta_rest → now ≡ now_first + now_rest → delta_rest + part_now ≡ now_rest + part_delta →
+    part_now ≡ sums_now → part_delta ≡ sums_delta →
+    delta + (now_first + sums_now) ≡ now + (delta_first + sums_delta)
+all_legs delta now delta_first now_first delta_rest now_rest part_now part_delta sums_now sums_delta a b c d e = omega arith
 
 three_sums : (n : ℕ) (a b c : ℕ → ℕ) →
     sum_below n (λ s. a s + (b s + c s)) ≡ sum_below n a + (sum_below n b + sum_below n c)
@@ -141,8 +141,8 @@ module _ (l : LeagueData) (diagonal : (a : ℕ) → distance l a a ≡ 0) (g : G
       sym (ap₂ (distance l) (tour_at_round g t s (omega arith)) (tour_at_round g t (s + 1) in_r))
 
   both_in : (t s : ℕ) → s + 1 < round_count g.teams → rounds s ≡ true → rounds (s + 1) ≡ true →
-      leg_told l g i j rounds t (s + 1) ≡ leg_turned l g i j (exchanged i j t) (s + 1)
-  unfolding stop_told
+      leg_predicted l g i j rounds t (s + 1) ≡ leg_turned l g i j (exchanged i j t) (s + 1)
+  unfolding stop_predicted
   both_in t s in_r here next =
       let back : s + 1 - 1 ≡ s = omega arith in
       let back_next : s + 1 + 1 - 1 ≡ s + 1 = omega arith in
@@ -167,8 +167,8 @@ module _ (l : LeagueData) (diagonal : (a : ℕ) → distance l a a ≡ 0) (g : G
     abbrev now : ℕ → ℕ → ℕ
     now = leg l g
 
-    abbrev told : ℕ → ℕ → ℕ
-    told = leg_told l g i j rounds
+    abbrev delta : ℕ → ℕ → ℕ
+    delta = leg_predicted l g i j rounds
 
     abbrev turned : ℕ → ℕ → ℕ
     turned = leg_turned l g i j
@@ -183,21 +183,21 @@ module _ (l : LeagueData) (diagonal : (a : ℕ) → distance l a a ≡ 0) (g : G
         (same_side g s (s + 1) t (sym (are.turning s next (is_inner s ∙ both)) ∙ out))
 
     each : (s : ℕ) → s < round_count g.teams →
-        (if rounds s || rounds (s + 1) then told j (s + 1) + told i (s + 1) else 0) +
+        (if rounds s || rounds (s + 1) then delta j (s + 1) + delta i (s + 1) else 0) +
         ((if has edges s then now j (s + 1) + now i (s + 1) else 0) +
         ((if has turns_j s then now j (s + 1) else 0) + (if has turns_i s then now i (s + 1) else 0))) ≡
         (if rounds s || rounds (s + 1) then now j (s + 1) + now i (s + 1) else 0) +
-        ((if has edges s then told j (s + 1) + told i (s + 1) else 0) +
+        ((if has edges s then delta j (s + 1) + delta i (s + 1) else 0) +
         ((if has turns_j s then turned j (s + 1) else 0) + (if has turns_i s then turned i (s + 1) else 0)))
     each s in_s =
         one_leg (has edges s) (rounds s) (rounds (s + 1)) (has turns_j s) (has turns_i s) (now j (s + 1)) (now i (s + 1))
-        (told j (s + 1)) (told i (s + 1)) (turned j (s + 1)) (turned i (s + 1)) (is_edges s)
+        (delta j (s + 1)) (delta i (s + 1)) (turned j (s + 1)) (turned i (s + 1)) (is_edges s)
         (λ out. are_j.inside s (is_inner s ∙ out)) (λ out. are_i.inside s (is_inner s ∙ out)) swapped
         (λ both. stays j s turns_j are_j (of_second i j) p.away_in in_s both)
         (λ both. stays i s turns_i are_i (of_first i j) p.home_in in_s both)
       where
         swapped : (rounds s && rounds (s + 1)) ≡ true →
-            (told j (s + 1) ≡ turned i (s + 1)) × (told i (s + 1) ≡ turned j (s + 1))
+            (delta j (s + 1) ≡ turned i (s + 1)) × (delta i (s + 1) ≡ turned j (s + 1))
         swapped both =
             let parts = and_parts (rounds s) (rounds (s + 1)) both in
             let next : s + 1 < round_count g.teams = next_in s in_s parts.1 in (
@@ -206,29 +206,29 @@ module _ (l : LeagueData) (diagonal : (a : ℕ) → distance l a a ≡ 0) (g : G
             )
 
     pub own_balance :
-        (part_of told g rounds j + part_of told g rounds i) +
+        (part_of delta g rounds j + part_of delta g rounds i) +
         ((if rounds 0 then now j 0 + now i 0 else 0) +
         (sum_where (round_count g.teams) (has edges) (λ s. now j (s + 1) + now i (s + 1)) +
         (sum_where (round_count g.teams) (has turns_j) (λ s. now j (s + 1)) +
         sum_where (round_count g.teams) (has turns_i) (λ s. now i (s + 1))))) ≡
         (part_of now g rounds j + part_of now g rounds i) +
-        ((if rounds 0 then told j 0 + told i 0 else 0) +
-        (sum_where (round_count g.teams) (has edges) (λ s. told j (s + 1) + told i (s + 1)) +
+        ((if rounds 0 then delta j 0 + delta i 0 else 0) +
+        (sum_where (round_count g.teams) (has edges) (λ s. delta j (s + 1) + delta i (s + 1)) +
         (sum_where (round_count g.teams) (has turns_j) (λ s. turned j (s + 1)) +
         sum_where (round_count g.teams) (has turns_i) (λ s. turned i (s + 1)))))
     own_balance =
-        all_legs _ _ _ _ _ _ _ _ _ _ (own_legs_of g told i j rounds some beyond) (own_legs_of g now i j rounds some beyond)
+        all_legs _ _ _ _ _ _ _ _ _ _ (own_legs_of g delta i j rounds some beyond) (own_legs_of g now i j rounds some beyond)
         (sum_below_balance (round_count g.teams)
-        (λ s. if rounds s || rounds (s + 1) then told j (s + 1) + told i (s + 1) else 0)
+        (λ s. if rounds s || rounds (s + 1) then delta j (s + 1) + delta i (s + 1) else 0)
         (λ s. if rounds s || rounds (s + 1) then now j (s + 1) + now i (s + 1) else 0)
-        (λ s. (if has edges s then told j (s + 1) + told i (s + 1) else 0) +
+        (λ s. (if has edges s then delta j (s + 1) + delta i (s + 1) else 0) +
         ((if has turns_j s then turned j (s + 1) else 0) + (if has turns_i s then turned i (s + 1) else 0)))
         (λ s. (if has edges s then now j (s + 1) + now i (s + 1) else 0) +
         ((if has turns_j s then now j (s + 1) else 0) + (if has turns_i s then now i (s + 1) else 0)))
         each)
         (three_sums (round_count g.teams) (λ s. if has edges s then now j (s + 1) + now i (s + 1) else 0)
         (λ s. if has turns_j s then now j (s + 1) else 0) (λ s. if has turns_i s then now i (s + 1) else 0))
-        (three_sums (round_count g.teams) (λ s. if has edges s then told j (s + 1) + told i (s + 1) else 0)
+        (three_sums (round_count g.teams) (λ s. if has edges s then delta j (s + 1) + delta i (s + 1) else 0)
         (λ s. if has turns_j s then turned j (s + 1) else 0) (λ s. if has turns_i s then turned i (s + 1) else 0))
 
 -- the sets of the walk

@@ -11,10 +11,10 @@ use Rattle.fixtures.specs.Edits.{exchanged}
 use Rattle.fixtures.specs.within.Edits.{is_either}
 use Rattle.fixtures.specs.Changes.{turns}
 use Rattle.tours.specs.Tours.{tour, leg}
-use Rattle.tours.specs.within.Told.{leg_turned, AreTurns, IsTurn}
+use Rattle.tours.specs.within.Delta.{leg_turned, AreTurns, IsTurn}
 use Rattle.tours.proofs.stops.Stops.{tour_at_round}
 use Rattle.tours.proofs.meetings.Opponents.{opponent_in, IsPairing-opponents}
-use Rattle.tours.proofs.exchanged_legs.TeamsTold.{unmoved, meets_neither}
+use Rattle.tours.proofs.exchanged_legs.TeamsDelta.{unmoved, meets_neither}
 
 module _ (l : LeagueData) (symmetric : (a b : ℕ) → distance l a b ≡ distance l b a) where
   -- the way from the own home to the place that isn't it, where f moves the home alone
@@ -59,8 +59,8 @@ module _ (l : LeagueData) (symmetric : (a b : ℕ) → distance l a b ≡ distan
         way_turned (λ x. x) refl refl ∙
         sym (ap₂ (distance l) (tour_at_round g t s in_s) (tour_at_round g t (s + 1) turn.next))
 
-    pub turned_told : (other : ℕ) → other ≡ exchanged i j t → distance l other away ≡ leg_turned l g i j t (s + 1)
-    turned_told other other_is =
+    pub turned_delta : (other : ℕ) → other ≡ exchanged i j t → distance l other away ≡ leg_turned l g i j t (s + 1)
+    turned_delta other other_is =
         ap (λ x. distance l x away) other_is ∙
         way_turned (exchanged i j) (unmoved i j (opponent_in g s t) turn.here)
         (unmoved i j (opponent_in g (s + 1) t) turn.there) ∙

@@ -3,7 +3,7 @@ use Rattle.std.proofs.Common.{◌≡◌, ℕ, ◌+◌, ◌<◌, ◌≤◌, ◌==
 use Rattle.std.proofs.lemmas.Bool.{and_parts}
 use Rattle.league.specs.Sets.{has, IsBelow}
 use Rattle.league.specs.within.Sets.{IsWithoutLowest}
-use Rattle.tours.specs.within.Told.{AreSums}
+use Rattle.tours.specs.within.Delta.{AreSums}
 use Rattle.league.proofs.ForCallers.{IsSumWithout, sum_without_none, sum_without_more, sum_without_all, lowest_below}
 
 -- the totals are those of the numbers that aren't left

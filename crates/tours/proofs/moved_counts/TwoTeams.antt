@@ -1,4 +1,4 @@
--- What is told of each game, where it differs at most at games that have one of two teams.
+-- What is predicted of each game, where it differs at most at games that have one of two teams.
 use Rattle.std.proofs.Common.{◌≡◌, ℕ, ◌+◌, ◌<◌, true, inl, inr, refl, sym, ◌∙◌, arith}
 use Rattle.std.specs.Prelude.{if◌then◌else◌}
 use Rattle.std.proofs.lemmas.Bool.{cases_Bool}
@@ -8,7 +8,7 @@ use Rattle.league.proofs.ForCallers.{sum_below_add, sum_below_balance}
 use Rattle.fixtures.specs.Games.{IsPair}
 use Rattle.fixtures.specs.within.Edits.{is_either}
 use Rattle.tours.proofs.balances.Balances.{where_balance}
-use Rattle.tours.proofs.exchanged_legs.TeamsTold.{of_either}
+use Rattle.tours.proofs.exchanged_legs.TeamsDelta.{of_either}
 
 -- the sum over the games at home and over those away
 abbrev pub around : ℕ → (ℕ → ℕ → ℕ) → ℕ → ℕ

@@ -12,12 +12,12 @@ use Rattle.fixtures.specs.within.Edits.{is_either}
 use Rattle.fixtures.proofs.ForCallers.{exchanged_first, exchanged_second, exchanged_exchanged, cell_teams_exchanged, other_cell}
 use Rattle.fixtures.proofs.ForCallers.{round_robin_teams_exchanged, StaysAmong}
 use Rattle.tours.specs.Repeats.{repeats}
-use Rattle.tours.specs.within.Told.{meets_next}
+use Rattle.tours.specs.within.Delta.{meets_next}
 use Rattle.tours.proofs.balances.Balances.{one}
 use Rattle.tours.proofs.balances.RepeatsBalance.{MeetingsDifferOnlyIn, repeats_with_after, repeats_with, repeats_balance_with}
 use Rattle.tours.proofs.meetings.Members.{repeat_at, repeats_with_after_members}
 use Rattle.tours.proofs.meetings.Opponents.{opponent_in}
-use Rattle.tours.proofs.exchanged_legs.TeamsTold.{unmoved, of_either, of_first, of_second, meets_neither}
+use Rattle.tours.proofs.exchanged_legs.TeamsDelta.{unmoved, of_either, of_first, of_second, meets_neither}
 
 exchanged_apart : (i j x y : ℕ) → x ≢ y → exchanged i j x ≢ exchanged i j y
 exchanged_apart i j x y apart is = apart (sym (exchanged_exchanged i j x) ∙ ap (exchanged i j) is ∙ exchanged_exchanged i j y)
@@ -125,9 +125,9 @@ module _ (g : Games) (rr : IsDoubleRoundRobin g) (i j : ℕ) (p : IsPair g.teams
       with_either g rr i j r p in_r (others_in g i r (neither_before i (of_first i j) p.home_in) in_r touched)
       (others_in g j r (neither_before j (of_second i j) p.away_in) in_r touched)
 
-  with_told : (r : ℕ) → r + 1 < round_count g.teams → (among r || among (r + 1)) ≡ true →
+  with_delta : (r : ℕ) → r + 1 < round_count g.teams → (among r || among (r + 1)) ≡ true →
       repeats_with_after after (is_either i j) r ≡ meets_next after j j r + meets_next after i i r
-  with_told r in_r touched =
+  with_delta r in_r touched =
       with_either after (round_robin_teams_exchanged g rr i j among p.home_in p.away_in stays) i j r p in_r
       (others_in after i r
       (λ s in_s there. ap (is_either i j) (first_there s in_s there) ∙ neither_before j (of_second i j) p.away_in s in_s there)
@@ -167,11 +167,11 @@ module _ (g : Games) (rr : IsDoubleRoundRobin g) (i j : ℕ) (p : IsPair g.teams
         (own_elsewhere i r p.home_in (omega arith) out) (first_there (r + 1) in_r next)
   ]
 
-  pub edges_told : (edges : ℕ → Bool) → ((r : ℕ) → r < round_count g.teams - 1 → edges r ≡ not (beq (among r) (among (r + 1)))) →
+  pub edges_delta : (edges : ℕ → Bool) → ((r : ℕ) → r < round_count g.teams - 1 → edges r ≡ not (beq (among r) (among (r + 1)))) →
       repeats after + sum_where (round_count g.teams - 1) edges (λ r. meets_next g j j r + meets_next g i i r) ≡
       repeats g + sum_where (round_count g.teams - 1) edges (λ r. meets_next g j i r + meets_next g i j r)
   unfolding repeats_with
-  edges_told edges are_edges =
+  edges_delta edges are_edges =
       of_edges (repeats after) (repeats g) (repeats_with after (is_either i j) among) (repeats_with g (is_either i j) among) _ _
       (repeats_balance_with g after (is_either i j) among meetings_differ)
       (sum_below_balance (round_count g.teams - 1)
@@ -184,5 +184,5 @@ module _ (g : Games) (rr : IsDoubleRoundRobin g) (i j : ℕ) (p : IsPair g.teams
       rw (are_edges r below)
       (edge_terms (among r) (among (r + 1)) _ _ _ _ (with_before r in_r)
       (λ both. let parts = and_parts (among r) (among (r + 1)) both in
-      with_told r in_r (or_left _ _ parts.0) ∙ nexts_within r in_r parts.0 parts.1)
-      (λ touched not_both. with_told r in_r touched ∙ nexts_at_edge r in_r touched not_both))))
+      with_delta r in_r (or_left _ _ parts.0) ∙ nexts_within r in_r parts.0 parts.1)
+      (λ touched not_both. with_delta r in_r touched ∙ nexts_at_edge r in_r touched not_both))))

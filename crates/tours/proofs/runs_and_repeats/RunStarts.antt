@@ -14,7 +14,7 @@ use Rattle.league.proofs.ForCallers.{count_where_none, any_below_fails}
 use Rattle.fixtures.specs.Games.{Games, round_count, is_home}
 use Rattle.tours.specs.Runs.{windows, is_run, runs_of, runs_over}
 use Rattle.tours.specs.Parts.{touches_window, runs_part_of, runs_part}
-use Rattle.tours.specs.within.Told.{HasHomes, HasRuns}
+use Rattle.tours.specs.within.Delta.{HasHomes, HasRuns}
 
 pub home_at : (g : Games) (team home r : ℕ) → HasHomes g team home → r < round_count g.teams → has home r ≡ is_home g team r
 home_at g team home r homes in_r = homes r ∙ ap (λ b. b && is_home g team r) (lt-ltb r (round_count g.teams) in_r)

@@ -3,17 +3,17 @@ use Rattle.std.specs.Prelude.{ℕ, slice_index}
 use Rattle.league.specs.League.{distance}
 use Rattle.league.specs.Sets.{has}
 use Rattle.fixtures.specs.within.Edits.{is_either}
-use Rattle.tours.specs.declared.teams_told.exchange.TeamExchange.{TeamExchange}
+use Rattle.tours.specs.declared.teams_delta.exchange.TeamExchange.{TeamExchange}
 use Rattle.tours.specs.Tours.{tour, leg}
 use Rattle.tours.specs.within.Walked.{guest_terms}
-use Rattle.tours.specs.within.Told.{leg_told, leg_turned}
+use Rattle.tours.specs.within.Delta.{leg_predicted, leg_turned}
 
 -- the leg of a team with this index
 abbrev pub leg_before : TeamExchange → ℕ → ℕ → ℕ
 leg_before x = leg x.league.now x.schedule.now
 
 abbrev pub leg_after : TeamExchange → ℕ → ℕ → ℕ
-leg_after x = leg_told x.league.now x.schedule.now x.i x.j (has x.rounds)
+leg_after x = leg_predicted x.league.now x.schedule.now x.i x.j (has x.rounds)
 
 -- in a round in which a team turns, inside the set
 abbrev pub turned_after : TeamExchange → ℕ → ℕ → ℕ

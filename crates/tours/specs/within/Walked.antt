@@ -11,7 +11,7 @@ use Rattle.tours.specs.Parts.{touches_leg}
 unfoldable pub with_guests : Games → (ℕ → Bool) → (ℕ → Bool) → ℕ → ℕ → Bool
 with_guests g teams rounds t r = rounds r && (teams t || teams (place g t r))
 
--- of legs that are told by a function of team and index, those of a team that touch a round of the set
+-- of legs that are given by a function of team and index, those of a team that touch a round of the set
 abbrev pub part_of : (ℕ → ℕ → ℕ) → Games → (ℕ → Bool) → ℕ → ℕ
 part_of f g set t = sum_where (leg_count g) (touches_leg g set) (f t)
 

@@ -1,8 +1,8 @@
 use Rattle.std.proofs.Common.{◌≡◌, ℕ, ap, refl, sym, subst, arith}
 use Rattle.league.specs.League.{teams}
 use Rattle.search.specs.Draws.{AreRoundsOf}
-use Rattle.search.specs.Heard.{AreTold}
-use Rattle.search.proofs.ForCallers.{told_more, told_none}
+use Rattle.search.specs.Heard.{AreReported}
+use Rattle.search.proofs.ForCallers.{reported_more, reported_none}
 use Rattle.search.specs.declared.gates.Progress.{Progress}
 use Rattle.annealing.specs.within.Heats.{block_count}
 use Rattle.annealing.specs.within.Progress.{IsGoing}
@@ -12,7 +12,7 @@ use Rattle.annealing.proofs.legs.anneal.Goals as goal
 pub loop-number-init : goal.loop-number-init
 loop-number-init g c = record {
   going = IsGoing-none c.args.plan.leg c.args.chain.board _ refl refl refl;
-  told = told_none _;
+  reported = reported_none _;
   within = λ some. absurd (omega arith);
 }
 
@@ -44,7 +44,7 @@ returns-then-may_end-clause-annealed g c =
 pub loop-number-preserved : goal.loop-number-preserved
 loop-number-preserved g c = record {
   going = c.in_ok-tally.ensures.goes_on c.args.chain.board c.loop-number.invariant.going;
-  told = told_more _ _ _ _ c.loop-number.invariant.told c.told.ensures
+  reported = reported_more _ _ _ _ c.loop-number.invariant.reported c.reported.ensures
       (omega (arith, ap (λ (p : Progress). p.steps) c.progress.ensures, c.in_ok-tally.ensures.steps));
   within = λ some. c.in_ok-tally.ensures.weight;
 }
@@ -56,13 +56,13 @@ returns-clause-annealed g c =
     IsAnnealed-all c.args.conditions.weights c.args.plan.leg c.args.chain c.loop-number.going c.end-2.result c.requires.leg.steps going
     (c.loop-number.invariant.within (omega (arith, c.requires.leg.steps))) c.end-2.ensures
 
-pub returns-then-may_end-clause-told : goal.returns-then-may_end-clause-told
-returns-then-may_end-clause-told g c =
-    let told : ℕ → Type 0 = λ n. AreTold (g.G.Gate.was_told c.args.workplace.gate.now 0) n in
-    subst told (sym c.end.ensures.steps) (told_more _ _ _ _ c.loop-number.invariant.told c.told.ensures
+pub returns-then-may_end-clause-reported : goal.returns-then-may_end-clause-reported
+returns-then-may_end-clause-reported g c =
+    let reported : ℕ → Type 0 = λ n. AreReported (g.G.Gate.was_reported c.args.run_context.gate.now 0) n in
+    subst reported (sym c.end.ensures.steps) (reported_more _ _ _ _ c.loop-number.invariant.reported c.reported.ensures
     (omega (arith, ap (λ (p : Progress). p.steps) c.progress.ensures, c.in_ok-tally.ensures.steps)))
 
-pub returns-clause-told : goal.returns-clause-told
-returns-clause-told g c =
-    let told : ℕ → Type 0 = λ n. AreTold (g.G.Gate.was_told c.args.workplace.gate.now 0) n in
-    subst told (sym c.end-2.ensures.steps) c.loop-number.invariant.told
+pub returns-clause-reported : goal.returns-clause-reported
+returns-clause-reported g c =
+    let reported : ℕ → Type 0 = λ n. AreReported (g.G.Gate.was_reported c.args.run_context.gate.now 0) n in
+    subst reported (sym c.end-2.ensures.steps) c.loop-number.invariant.reported

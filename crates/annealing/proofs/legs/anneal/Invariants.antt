@@ -1,11 +1,11 @@
 use Rattle.std.proofs.Common.{◌≤◌}
-use Rattle.search.specs.Heard.{AreTold}
+use Rattle.search.specs.Heard.{AreReported}
 use Rattle.annealing.specs.within.Progress.{IsGoing, IsWithin}
 use Rattle.annealing.proofs.legs.anneal.Given as goal
 
 abbrev pub invariant-loop-number : goal.invariant-loop-number
 invariant-loop-number g l = record {
   going : IsGoing l.leg l.fn.chain.board l.number l.going;
-  told : AreTold (g.G.Gate.was_told l.gate 0) l.going.steps;
+  reported : AreReported (g.G.Gate.was_reported l.gate 0) l.going.steps;
   within : 1 ≤ l.number → IsWithin l.conditions.weights l.going.weight;
 }

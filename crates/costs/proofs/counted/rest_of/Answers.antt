@@ -7,7 +7,7 @@ pub overflow_sub-result : goal.overflow_sub-result
 overflow_sub-result c =
     omega (
       arith,
-      hard_fits c.args.league.now c.args.scope.now c.args.schedule.now _ _ c.requires.told,
+      hard_fits c.args.league.now c.args.scope.now c.args.schedule.now _ _ c.requires.predicted,
       c.phases_part.ensures.value,
     )
 
@@ -15,7 +15,7 @@ pub overflow_sub-result-2 : goal.overflow_sub-result-2
 overflow_sub-result-2 c =
     omega (
       arith,
-      hard_fits c.args.league.now c.args.scope.now c.args.schedule.now _ _ c.requires.told,
+      hard_fits c.args.league.now c.args.scope.now c.args.schedule.now _ _ c.requires.predicted,
       c.phases_part.ensures.value,
       c.parts_of_rules-rules.ensures.hard,
     )
@@ -24,25 +24,25 @@ pub overflow_sub-result-3 : goal.overflow_sub-result-3
 overflow_sub-result-3 c =
     omega (
       arith,
-      soft_fits c.args.league.now c.args.scope.now c.args.schedule.now _ _ c.requires.told,
+      soft_fits c.args.league.now c.args.scope.now c.args.schedule.now _ _ c.requires.predicted,
       c.parts_of_rules-rules.ensures.soft,
     )
 
 pub returns-clause-rest : goal.returns-clause-rest
 returns-clause-rest c =
     rest_after c.args.league.now c.args.schedule.now c.args.scope.now _ _ c.teams.ensures.limits c.requires.same_size c.requires.scope
-    c.requires.told
+    c.requires.predicted
     (record {
       travel_is = refl;
       hard = omega (
         arith,
-        hard_fits c.args.league.now c.args.scope.now c.args.schedule.now _ _ c.requires.told,
+        hard_fits c.args.league.now c.args.scope.now c.args.schedule.now _ _ c.requires.predicted,
         c.phases_part.ensures.value,
         c.parts_of_rules-rules.ensures.hard,
       );
       soft = omega (
         arith,
-        soft_fits c.args.league.now c.args.scope.now c.args.schedule.now _ _ c.requires.told,
+        soft_fits c.args.league.now c.args.scope.now c.args.schedule.now _ _ c.requires.predicted,
         c.parts_of_rules-rules.ensures.soft,
       );
     })

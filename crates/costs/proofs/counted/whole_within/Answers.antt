@@ -8,7 +8,7 @@ use Rattle.robinx.proofs.ForCallers.{deviation_below}
 use Rattle.costs.proofs.Parts.{rule_for}
 use Rattle.std.proofs.lemmas.List.{length-set}
 use Rattle.league.proofs.ForCallers.{lowest_below}
-use Rattle.costs.proofs.CountsKept.{rest_taken}
+use Rattle.costs.proofs.KeptDeviations.{rest_taken}
 use Rattle.costs.specs.declared.cost.Cost.{Cost}
 use Rattle.costs.proofs.Partial.{IsCountedWithout, all_counted, no_more, none_counted, one_more_counted}
 use Rattle.costs.proofs.Scores.{cost_small}
@@ -55,8 +55,8 @@ loop-i-preserved c =
           let rests = c.loop-i.invariant.rests known in
           let part = deviation_part c.args.schedule.now c.args.scope.now.main.teams c.args.scope.now.main.rounds c.args.scope.now.turning
           c.rule-rule.result.now.body in
-          let left : get_or c.loop-i.counts.next c.in-Some.i 0 + part ≡ deviation c.args.schedule.now c.rule-rule.result.now.body =
-          ap (λ b. get_or c.loop-i.counts.next c.in-Some.i 0 + (if b then part else 0)) (sym c.in-Some.ensures.steps.in_set) ∙
+          let left : get_or c.loop-i.deviations.next c.in-Some.i 0 + part ≡ deviation c.args.schedule.now c.rule-rule.result.now.body =
+          ap (λ b. get_or c.loop-i.deviations.next c.in-Some.i 0 + (if b then part else 0)) (sym c.in-Some.ensures.steps.in_set) ∙
           rests c.in-Some.i c.rule-rule.result.now c.rule-rule.ensures.value
           (c.loop-i.invariant.within c.in-Some.i c.in-Some.ensures.steps.in_set) in
           let small : deviation c.args.schedule.now c.rule-rule.result.now.body < deviation_limit =

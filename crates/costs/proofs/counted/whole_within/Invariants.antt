@@ -1,7 +1,7 @@
 use Rattle.std.proofs.Common.{◌≡◌, ℕ, true, length}
 use Rattle.league.specs.Limits.{max_rules}
 use Rattle.league.specs.Sets.{has}
-use Rattle.costs.specs.within.CountsKept.{AreRests, IsKeptOf}
+use Rattle.costs.specs.within.KeptDeviations.{AreRests, IsKeptOf}
 use Rattle.costs.proofs.Partial.{IsCountedWithout, IsNoMore}
 use Rattle.costs.proofs.counted.whole_within.Given as goal
 
@@ -9,8 +9,8 @@ abbrev pub invariant-loop-i : goal.invariant-loop-i
 invariant-loop-i l = record {
   counted : IsCountedWithout l.league l.scope l.schedule l.fn.rest l.i-iterator l.cost;
   no_more : IsNoMore l.league l.scope.attempt.weight l.schedule l.cost;
-  same : IsKeptOf l.counts l.fn.counts;
-  next_length : length l.counts.next ≡ max_rules;
+  same : IsKeptOf l.deviations l.fn.deviations;
+  next_length : length l.deviations.next ≡ max_rules;
   within : (i : ℕ) → has l.i-iterator i ≡ true → has l.scope.rules i ≡ true;
-  rests : l.counts.is_known ≡ true → AreRests l.league.rules l.scope l.i-iterator l.schedule l.counts.next;
+  rests : l.deviations.is_known ≡ true → AreRests l.league.rules l.scope l.i-iterator l.schedule l.deviations.next;
 }

@@ -27,10 +27,10 @@ nonzero_div-left c = rw c.score_weight.ensures (score_least _ _ c.requires.weigh
 pub returns : goal.returns
 returns c =
     let turning = ap (λ (t : TouchedCells). has t.teams) c.turned-2.view_is ∙ fun_ext c.requires.scope.turning in
-    let told =
+    let predicted =
     c.turned_within.ensures (exchanged_by c.args.schedule.now c.args.scope.now.attempt.exchange.now)
     (round_robin_after c.args.schedule.now c.args.scope.now c.requires.scope) (rw turning c.turned_rounds-turned-inside.ensures.turned) in
-    rw (c.score_weight.ensures, c.new.ensures) at told ∙
+    rw (c.score_weight.ensures, c.new.ensures) at predicted ∙
     touched_fits c.args.league.now c.args.scope.now _ c.in-Some.last c.rule-rule.result.now
     (record { teams = c.in-Fa2.teams; slots = c.in-Fa2.slots; most = c.in-Fa2.most })
     (sym c.requires.rules.fairness ∙ c.in-Some.is) c.rule-rule.ensures.value c.in-Fa2.is c.args.left _ c.turned.view_is

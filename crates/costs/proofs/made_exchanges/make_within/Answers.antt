@@ -1,43 +1,43 @@
 use Rattle.std.proofs.Common.{◌≡◌, not, length, sym, ◌∙◌, ap, subst, arith}
 use Rattle.costs.specs.declared.attempt.Attempt.{Attempt}
-use Rattle.costs.specs.within.CostParts.{IsTold}
+use Rattle.costs.specs.within.CostParts.{IsPredicted}
 use Rattle.fixtures.specs.Exchanges.{exchanged_by}
 use Rattle.fixtures.specs.Games.{Games}
-use Rattle.costs.specs.within.CountsKept.{AreRests}
+use Rattle.costs.specs.within.KeptDeviations.{AreRests}
 use Rattle.costs.specs.Evaluators.{AreDeviations, IsEvaluatorOf}
-use Rattle.costs.proofs.CountsKept.{from_some, kept_after, known_at, rests_after, still_counts}
-use Rattle.costs.proofs.Parts.{score_after, told_alone, within_is_small}
+use Rattle.costs.proofs.KeptDeviations.{from_some, kept_after, known_at, rests_after, still_deviations}
+use Rattle.costs.proofs.Parts.{predicted_alone, score_after, within_is_small}
 use Rattle.costs.proofs.made_exchanges.make_within.Goals as goal
 use Rattle.costs.proofs.made_exchanges.make_within.Goals.{then-is_none, else-is_none}
 
 pub score_by-requires : goal.score_by-requires
 score_by-requires c =
-    let whole = told_alone c.args.attempt.now.weight (omega arith) c.in_ok-told.ensures c.teams.ensures.limits c.requires.same_size
+    let whole = predicted_alone c.args.attempt.now.weight (omega arith) c.in_ok-predicted.ensures c.teams.ensures.limits c.requires.same_size
     (omega (arith, c.rule_count.ensures.value, c.if-rule_count-eq0.true)) (sym c.phased.ensures ∙ c.if-not-phased.true) in
     whole.fits
 
 pub returns-then-score_by-attempt-clause-value : goal.returns-then-score_by-attempt-clause-value
 returns-then-score_by-attempt-clause-value c =
-    let whole = told_alone c.args.attempt.now.weight (omega arith) c.in_ok-told.ensures c.teams.ensures.limits c.requires.same_size
+    let whole = predicted_alone c.args.attempt.now.weight (omega arith) c.in_ok-predicted.ensures c.teams.ensures.limits c.requires.same_size
     (omega (arith, c.rule_count.ensures.value, c.if-rule_count-eq0.true)) (sym c.phased.ensures ∙ c.if-not-phased.true) in
     omega (arith, whole.score_is, c.score_by.ensures, c.if-score_by-attempt.true)
 
 pub returns-then-not-phased-clause-value : goal.returns-then-not-phased-clause-value
 returns-then-not-phased-clause-value c =
-    let whole = told_alone c.args.attempt.now.weight (omega arith) c.in_ok-told.ensures c.teams.ensures.limits c.requires.same_size
+    let whole = predicted_alone c.args.attempt.now.weight (omega arith) c.in_ok-predicted.ensures c.teams.ensures.limits c.requires.same_size
     (omega (arith, c.rule_count.ensures.value, c.if-rule_count-eq0.true)) (sym c.phased.ensures ∙ c.if-not-phased.true) in
     (whole.is, omega (arith, c.score_by.ensures, c.if-score_by-attempt.false))
 
 pub returns-then-not-phased-clause-small : goal.returns-then-not-phased-clause-small
 returns-then-not-phased-clause-small c =
-    let whole = told_alone c.args.attempt.now.weight (omega arith) c.in_ok-told.ensures c.teams.ensures.limits c.requires.same_size
+    let whole = predicted_alone c.args.attempt.now.weight (omega arith) c.in_ok-predicted.ensures c.teams.ensures.limits c.requires.same_size
     (omega (arith, c.rule_count.ensures.value, c.if-rule_count-eq0.true)) (sym c.phased.ensures ∙ c.if-not-phased.true) in
     whole.small
 
-pub rest_within-requires-clause-told : goal.rest_within-requires-clause-told
-rest_within-requires-clause-told c =
-    subst (λ (a : Attempt). IsTold c.args.league.now c.args.schedule.now a.exchange.now c.in_ok-told.told) (sym c.of-scope.ensures.attempt)
-    c.in_ok-told.ensures
+pub rest_within-requires-clause-predicted : goal.rest_within-requires-clause-predicted
+rest_within-requires-clause-predicted c =
+    subst (λ (a : Attempt). IsPredicted c.args.league.now c.args.schedule.now a.exchange.now c.in_ok-predicted.predicted) (sym c.of-scope.ensures.attempt)
+    c.in_ok-predicted.ensures
 
 pub returns-clause-small : goal.returns-clause-small
 returns-clause-small c =
@@ -52,7 +52,7 @@ schedule_is c =
 
 pub whole_within-cost-requires-clause-rests : goal.whole_within-cost-requires-clause-rests
 whole_within-cost-requires-clause-rests c = λ known.
-    subst (λ (g : Games). AreRests c.args.league.now.rules c.of-scope.result c.of-scope.result.rules g c.rest_within.new.counts.next)
+    subst (λ (g : Games). AreRests c.args.league.now.rules c.of-scope.result c.of-scope.result.rules g c.rest_within.new.deviations.next)
     (schedule_is c)
     (rests_after c.args.league.now c.args.schedule.now c.of-scope.result c.teams.ensures.limits c.requires.same_size c.of-scope.ensures.scope
     _ (c.rest_within.ensures.rests known))
@@ -62,14 +62,14 @@ returns-clause-evaluator c =
     let league = subst (IsEvaluatorOf c.args.league.now.rules) (sym c.evaluator.view_is) c.requires.evaluator.league in
     let moved = ap (λ (a : Attempt). exchanged_by c.args.schedule.now a.exchange.now) c.of-scope.ensures.attempt ∙
     sym c.make-2.ensures.made in
-    let kept = still_counts c.args.league.now.rules c.args.schedule.now _ c.whole_within-cost.new.counts c.rest_within.ensures.counts
+    let kept = still_deviations c.args.league.now.rules c.args.schedule.now _ c.whole_within-cost.new.deviations c.rest_within.ensures.deviations
     c.whole_within-cost.ensures.same c.whole_within-cost.ensures.next_length in
     elim c.if-is_none.branch [
       | then-is_none w ↦ rw (w.schedule-is, w.evaluator-inside-is)
           (record {
             league = record { index = league.index; fairness = league.fairness };
             schedule = rw (w.make-then-is_none.ensures.made ∙ c.make-2.ensures.back)
-                (known_at c.args.league.now.rules c.args.schedule.now c.whole_within-cost.new.counts kept);
+                (known_at c.args.league.now.rules c.args.schedule.now c.whole_within-cost.new.deviations kept);
           })
       | else-is_none w ↦ rw (w.schedule-is, w.evaluator-inside-is)
           (record {
@@ -82,9 +82,9 @@ returns-clause-evaluator c =
                       let was_known = sym w.keep.ensures.known ∙ known in
                       subst (λ (g : Games). AreDeviations c.args.league.now.rules g w.keep.new.self.kept) moved
                       (kept_after c.args.league.now c.args.schedule.now c.of-scope.result c.teams.ensures.limits c.requires.same_size
-                      c.of-scope.ensures.scope (c.of-scope.ensures.rules c.args.league.now c.requires.evaluator.league) c.whole_within-cost.new.counts.next
-                      c.whole_within-cost.new.counts.kept w.keep.new.self.kept (kept.deviations was_known)
-                      (subst (λ (g : Games). AreRests c.args.league.now.rules c.of-scope.result 0 g c.whole_within-cost.new.counts.next)
+                      c.of-scope.ensures.scope (c.of-scope.ensures.rules c.args.league.now c.requires.evaluator.league) c.whole_within-cost.new.deviations.next
+                      c.whole_within-cost.new.deviations.kept w.keep.new.self.kept (kept.deviations was_known)
+                      (subst (λ (g : Games). AreRests c.args.league.now.rules c.of-scope.result 0 g c.whole_within-cost.new.deviations.next)
                       (sym moved)
                       (from_some c.whole_within-cost.result _ (c.is_none.ensures ∙ ap not w.if-is_none.false) c.whole_within-cost.ensures.all
                       was_known))

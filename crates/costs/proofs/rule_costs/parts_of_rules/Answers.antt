@@ -6,7 +6,7 @@ use Rattle.league.proofs.ForCallers.{lowest_below, sum_without_none, sum_without
 use Rattle.robinx.proofs.ForCallers.{part_le}
 use Rattle.costs.specs.Costs.{hard_penalty, soft_penalty}
 use Rattle.costs.specs.within.CostParts.{rule_part}
-use Rattle.costs.proofs.CountsKept.{rest_more}
+use Rattle.costs.proofs.KeptDeviations.{rest_more}
 use Rattle.costs.proofs.PartLimits.{hard_nothing, soft_nothing}
 use Rattle.costs.proofs.Walked.{walked}
 use Rattle.costs.proofs.rule_costs.parts_of_rules.Goals as goal
@@ -19,7 +19,7 @@ loop-i-init c =
       hard = sum_without_none _ _ _ _ _ below c.into_iter-i-iterator.ensures.into_iter_gives;
       soft = sum_without_none _ _ _ _ _ below c.into_iter-i-iterator.ensures.into_iter_gives;
       same = record { known = refl; kept = refl };
-      next_length = c.requires.counts.next_length;
+      next_length = c.requires.deviations.next_length;
       rests = λ known k rule at in_scope gone.
           absurd (true≢false (sym in_scope ∙ sym (ap (λ set. has set k) c.into_iter-i-iterator.ensures.into_iter_gives) ∙ gone));
     }
@@ -30,23 +30,23 @@ rule-rule-requires c = lowest_below _ _ _ _ c.loop-i.invariant.hard.below c.in-S
 pub part_before-part-requires-clause-index : goal.part_before-part-requires-clause-index
 part_before-part-requires-clause-index c =
     let below = lowest_below _ _ _ _ c.loop-i.invariant.hard.below c.in-Some.ensures.steps in
-    let length_is : length c.loop-i.counts.kept ≡ max_rules = ap length c.loop-i.invariant.same.kept ∙ c.requires.counts.kept_length in
+    let length_is : length c.loop-i.deviations.kept ≡ max_rules = ap length c.loop-i.invariant.same.kept ∙ c.requires.deviations.kept_length in
     omega (arith, below, c.teams.ensures.limits.rule_count, length_is)
 
-pub offset_bounds-counts-i : goal.offset_bounds-counts-i
-offset_bounds-counts-i c =
+pub offset_bounds-deviations-i : goal.offset_bounds-deviations-i
+offset_bounds-deviations-i c =
     omega (arith, lowest_below _ _ _ _ c.loop-i.invariant.hard.below c.in-Some.ensures.steps, c.teams.ensures.limits.rule_count)
 
-pub bounds-counts-i : goal.bounds-counts-i
-bounds-counts-i c =
+pub bounds-deviations-i : goal.bounds-deviations-i
+bounds-deviations-i c =
     omega (arith, lowest_below _ _ _ _ c.loop-i.invariant.hard.below c.in-Some.ensures.steps, c.teams.ensures.limits.rule_count)
 
-pub offset_bounds-counts-i-in-loop-i : goal.offset_bounds-counts-i-in-loop-i
-offset_bounds-counts-i-in-loop-i c =
+pub offset_bounds-deviations-i-in-loop-i : goal.offset_bounds-deviations-i-in-loop-i
+offset_bounds-deviations-i-in-loop-i c =
     omega (arith, lowest_below _ _ _ _ c.loop-i.invariant.hard.below c.in-Some.ensures.steps, c.teams.ensures.limits.rule_count)
 
-pub bounds-counts-i-in-loop-i : goal.bounds-counts-i-in-loop-i
-bounds-counts-i-in-loop-i c =
+pub bounds-deviations-i-in-loop-i : goal.bounds-deviations-i-in-loop-i
+bounds-deviations-i-in-loop-i c =
     omega (arith, lowest_below _ _ _ _ c.loop-i.invariant.hard.below c.in-Some.ensures.steps, c.teams.ensures.limits.rule_count)
 
 pub loop-i-preserved : goal.loop-i-preserved
@@ -66,15 +66,15 @@ loop-i-preserved c =
       same = record { known = step.same.known ∙ c.loop-i.invariant.same.known; kept = step.same.kept ∙ c.loop-i.invariant.same.kept };
       next_length = length-set _ _ _ ∙ ap length step.next ∙ c.loop-i.invariant.next_length;
       rests = λ known.
-          let was_known : c.loop-i.counts.is_known ≡ true = sym step.same.known ∙ known in
-          let deviation_is = c.requires.counts.deviations (sym c.loop-i.invariant.same.known ∙ was_known) c.in-Some.i c.rule-rule.result.now
+          let was_known : c.loop-i.deviations.is_known ≡ true = sym step.same.known ∙ known in
+          let deviation_is = c.requires.deviations.deviations (sym c.loop-i.invariant.same.known ∙ was_known) c.in-Some.i c.rule-rule.result.now
           c.rule-rule.ensures.value in
-          let kept : get_or c.part_before-part.new.self.kept c.in-Some.i 0 ≡ get_or c.args.counts.now.kept c.in-Some.i 0 =
+          let kept : get_or c.part_before-part.new.self.kept c.in-Some.i 0 ≡ get_or c.args.deviations.now.kept c.in-Some.i 0 =
           ap (λ kept. get_or kept c.in-Some.i 0) (step.same.kept ∙ c.loop-i.invariant.same.kept) in
           let least = part_le c.args.schedule.now c.args.scope.now.main.teams c.args.scope.now.main.rounds c.args.scope.now.turning
           c.rule-rule.result.now.body in
           rw step.next
-          (rest_more c.args.league.now.rules c.args.scope.now _ _ _ c.args.schedule.now c.loop-i.counts.next c.rule-rule.result.now _
+          (rest_more c.args.league.now.rules c.args.scope.now _ _ _ c.args.schedule.now c.loop-i.deviations.next c.rule-rule.result.now _
           (omega (arith, below, c.teams.ensures.limits.rule_count, c.loop-i.invariant.next_length))
           taken c.rule-rule.ensures.value
           (omega (arith, c.saturating_sub.ensures, step.value, deviation_is, kept, least)) (c.loop-i.invariant.rests was_known));

@@ -7,8 +7,8 @@ unfolding league_text
 returns-clause-text c =
     rw (
       c.in_ok-extend_from_slice-5.ensures.items,
-      c.in_ok-push_term-2.ensures,
-      c.in_ok-push_term.ensures,
+      c.in_ok-push_setting-2.ensures,
+      c.in_ok-push_setting.ensures,
       c.in_ok-extend_from_slice-4.ensures.items,
       c.in_ok-push_rows.ensures,
       c.in_ok-extend_from_slice-3.ensures.items,

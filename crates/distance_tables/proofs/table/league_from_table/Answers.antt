@@ -17,7 +17,7 @@ returns c =
       given,
       record {
         text_is = text;
-        reads = rw text (reads c.args.choice (said_by c.args.terms) c.args.text.now table c.requires c.in_ok-text.ensures.utf8 given);
+        reads = rw text (reads c.args.choice (said_by c.args.settings) c.args.text.now table c.requires c.in_ok-text.ensures.utf8 given);
         rounded_is = rw c.deref-6.ensures.value at c.rounded_in.ensures;
       },
     )

@@ -10,47 +10,47 @@ returns-in_err-board_or_new g c =
     let p = err_from_is_err_and c.from_residual.result c.from_residual.ensures.1 in
     rw (p.1, p.2) (sent_none g.W.Sink.held g.W.Sink.tally s.start.now s.unit s.plan c.args.out.now c.requires.none)
 
-pub loop-told-init : goal.loop-told-init
-loop-told-init g c =
+pub loop-reported-init : goal.loop-reported-init
+loop-reported-init g c =
     let s = c.args.setting in
     under_way_none g.W.Sink.held g.W.Sink.tally s.start.now s.unit s.plan c.args.out.now c.new-line.result _ c.requires.none
     c.new-line.ensures.line c.new-line.ensures.left c.in_ok-board_or_new.ensures refl refl c.new.ensures
 
-pub tell-requires-clause-under_way : goal.tell-requires-clause-under_way
-tell-requires-clause-under_way g c = λ κs within.
+pub report_leg-requires-clause-under_way : goal.report_leg-requires-clause-under_way
+report_leg-requires-clause-under_way g c = λ κs within.
     let s = c.args.setting in
     let next = c.in_ok-leg.ensures in
-    rw c.of-lent.ensures (under_way_next g.W.Sink.held g.W.Sink.tally s.start.now s.unit s.plan c.loop-told.line c.next_leg.new.line
-    c.loop-told.told c.in_ok-leg.field-0 c.in-Some.leg c.loop-told.invariant c.in-Some.is next.line next.leg next.left)
+    rw c.of-lent.ensures (under_way_next g.W.Sink.held g.W.Sink.tally s.start.now s.unit s.plan c.loop-reported.line c.next_leg.new.line
+    c.loop-reported.reported c.in_ok-leg.field-0 c.in-Some.leg c.loop-reported.invariant c.in-Some.is next.line next.leg next.left)
 
-pub loop-told-preserved : goal.loop-told-preserved
-loop-told-preserved g c =
+pub loop-reported-preserved : goal.loop-reported-preserved
+loop-reported-preserved g c =
     let s = c.args.setting in
     let next = c.in_ok-leg.ensures in
-    c.in_ok-tell.ensures.under_way c.args.out.now (under_way_next g.W.Sink.held g.W.Sink.tally s.start.now s.unit s.plan
-    c.loop-told.line c.next_leg.new.line c.loop-told.told c.in_ok-leg.field-0 c.in-Some.leg c.loop-told.invariant c.in-Some.is next.line
+    c.in_ok-report_leg.ensures.under_way c.args.out.now (under_way_next g.W.Sink.held g.W.Sink.tally s.start.now s.unit s.plan
+    c.loop-reported.line c.next_leg.new.line c.loop-reported.reported c.in_ok-leg.field-0 c.in-Some.leg c.loop-reported.invariant c.in-Some.is next.line
     next.leg next.left)
 
 pub returns-in_err-leg : goal.returns-in_err-leg
 returns-in_err-leg g c =
     let p = err_from_is_err_and c.from_residual-in_err-leg.result c.from_residual-in_err-leg.ensures.1 in
-    rw (p.1, p.2) c.loop-told.invariant.sent
+    rw (p.1, p.2) c.loop-reported.invariant.sent
 
-pub returns-in_err-tell : goal.returns-in_err-tell
-returns-in_err-tell g c =
+pub returns-in_err-report_leg : goal.returns-in_err-report_leg
+returns-in_err-report_leg g c =
     let s = c.args.setting in
     let next = c.in_ok-leg.ensures in
-    let w = under_way_next g.W.Sink.held g.W.Sink.tally s.start.now s.unit s.plan c.loop-told.line c.next_leg.new.line c.loop-told.told
-    c.in_ok-leg.field-0 c.in-Some.leg c.loop-told.invariant c.in-Some.is next.line next.leg next.left in
-    let p = err_from_is_err_and c.from_residual-in_err-tell.result c.from_residual-in_err-tell.ensures.1 in
-    rw (p.1, p.2) (ends_early g.W.Sink.held g.W.Sink.tally s.start.now s.unit s.plan c.args.out.now c.tell.new.out
-    (λ (done : Unit {0}). IsUnderWay g.W.Sink.held g.W.Sink.tally s.start.now s.unit s.plan c.args.out.now c.tell.new.out [] c.tell.new.line
-    c.tell.new.told)
-    (HasRunAll g.W.Sink.held g.W.Sink.tally s.start.now s.unit s.plan c.args.out.now c.tell.new.out)
-    c.in_err-tell.field-0.0 (c.in_err-tell.ensures.under_way c.args.out.now w))
+    let w = under_way_next g.W.Sink.held g.W.Sink.tally s.start.now s.unit s.plan c.loop-reported.line c.next_leg.new.line c.loop-reported.reported
+    c.in_ok-leg.field-0 c.in-Some.leg c.loop-reported.invariant c.in-Some.is next.line next.leg next.left in
+    let p = err_from_is_err_and c.from_residual-in_err-report_leg.result c.from_residual-in_err-report_leg.ensures.1 in
+    rw (p.1, p.2) (ends_early g.W.Sink.held g.W.Sink.tally s.start.now s.unit s.plan c.args.out.now c.report_leg.new.out
+    (λ (done : Unit {0}). IsUnderWay g.W.Sink.held g.W.Sink.tally s.start.now s.unit s.plan c.args.out.now c.report_leg.new.out [] c.report_leg.new.line
+    c.report_leg.new.reported)
+    (HasRunAll g.W.Sink.held g.W.Sink.tally s.start.now s.unit s.plan c.args.out.now c.report_leg.new.out)
+    c.in_err-report_leg.field-0.0 (c.in_err-report_leg.ensures.under_way c.args.out.now w))
 
 pub returns : goal.returns
 returns g c =
     let s = c.args.setting in
-    run_all_is g.W.Sink.held g.W.Sink.tally s.start.now s.unit s.plan c.loop-told.line c.loop-told.told c.loop-told.invariant
+    run_all_is g.W.Sink.held g.W.Sink.tally s.start.now s.unit s.plan c.loop-reported.line c.loop-reported.reported c.loop-reported.invariant
     (none_left c.in_ok-leg.field-0 c.in_default.not-Some (c.in_ok-leg.ensures).none)

@@ -1,7 +1,7 @@
 use Rattle.std.proofs.Common.{◌≡◌, ◌∷◌, [], length, sym, ap, ◌∙◌, append_assoc, arith}
 use Rattle.std.proofs.lemmas.List.Elements.{All-head, All-rest, All-same}
 use Rattle.std.specs.Vec.Iter.{into_iter_items}
-use Rattle.search.specs.within.Crews.{IsHandle}
+use Rattle.search.specs.within.RunParts.{IsHandle}
 use Rattle.search.proofs.Credited.{gathered_more}
 use Rattle.search.proofs.runs.threads.gather.Goals as goal
 
@@ -15,8 +15,8 @@ loop-handle-preserved g c =
     let gone = c.in-Some.ensures.steps.1 in
     let short = ap length steps in
     let pushed = c.push_reserved.ensures in
-    let league = c.args.run.means.measure.league.now in
-    let is_handle = IsHandle c.args.run.means.gate.now league c.args.run.plan c.args.run.shared.now in
+    let league = c.args.run.context.scoring.league.now in
+    let is_handle = IsHandle c.args.run.context.gate.now league c.args.run.plan c.args.run.shared.now in
     let given : is_handle handle =
     All-head is_handle handle rest
     (All-same is_handle (handle ∷ rest) all (sym steps) was.handles)
@@ -27,7 +27,7 @@ loop-handle-preserved g c =
       all = append_assoc c.loop-handle.yielded (handle ∷ []) _ ∙ rw (← steps) was.all;
       count = omega (arith, gone, pushed.len, was.count);
       room = omega (arith, pushed.capacity, was.room);
-      gathered = gathered_more g.G.Gate.heard g.G.Gate.was_told c.args.run.means.gate.now league c.args.run.plan c.args.run.shared.now c.args.seat.now
+      gathered = gathered_more g.G.Gate.heard g.G.Gate.was_reported c.args.run.context.gate.now league c.args.run.plan c.args.run.shared.now c.args.seat.now
           c.loop-handle.seat c.join-ended.result.seat c.absorb.new.seat
           c.loop-handle.yielded handle c.loop-handle.reports.items c.push_reserved.new.self.items c.join-ended.result.report
           was.gathered given c.join-ended.ensures c.absorb.ensures pushed.items;

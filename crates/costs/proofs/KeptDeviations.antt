@@ -1,0 +1,187 @@
+-- What is kept of the rules' deviations, from one schedule to the next.
+use Rattle.std.proofs.Common.{◌≡◌, ℕ, ◌+◌, ◌<◌, ◌&&◌, not, Bool, true, false, if◌then◌else◌, List, length, get_or, Option, Some, None, slice_get, slice_set}
+use Rattle.std.proofs.Common.{IfSome, true≢false, refl, sym, ◌∙◌, ap, subst, inl, inr, arith}
+use Rattle.std.specs.Option.{is_some}
+use Rattle.std.specs.Prelude.{slice_index}
+use Rattle.std.proofs.lemmas.Bool.{cases_eq}
+use Rattle.std.proofs.lemmas.Grind.{get_or-set_at}
+use Rattle.std.proofs.lemmas.List.{get_or-set_other}
+use Rattle.std.proofs.lemmas.Option.{get_or_from_slice_get}
+use Rattle.league.specs.League.{LeagueData, teams, IsLeague}
+use Rattle.league.specs.Limits.{max_rules}
+use Rattle.league.specs.RuleLimits.{IsBodyFor}
+use Rattle.league.specs.Sets.{has}
+use Rattle.league.specs.within.Sets.{IsWithoutLowest}
+use Rattle.league.specs.declared.rule.Rule.{Rule}
+use Rattle.league.proofs.ForCallers.{has_empty, lowest_gone, others_kept}
+use Rattle.fixtures.specs.Exchanges.{exchanged_by}
+use Rattle.fixtures.specs.Games.{Games}
+use Rattle.robinx.specs.Deviations.{deviation}
+use Rattle.robinx.specs.Parts.{deviation_part}
+use Rattle.rule_index.proofs.ForCallers.{nothing_else_altered}
+use Rattle.costs.specs.within.CostParts.{IsScope, KnowsRules}
+use Rattle.costs.specs.within.KeptDeviations.{AreKeptDeviations, AreRests, IsKeptOf}
+use Rattle.costs.specs.Evaluators.{if_known, AreDeviations}
+use Rattle.costs.specs.declared.kept_deviations.KeptDeviations.{KeptDeviations}
+use Rattle.costs.specs.declared.scope.Scope.{Scope}
+use Rattle.costs.proofs.Parts.{body_balances, round_robin_after, rule_for}
+use Rattle.costs.proofs.Scores.{exchanged-teams}
+
+-- what a loop over the rules of a set has kept of the next numbers, where it has come to all but those left
+abbrev pub KeptWithout : ℕ → ℕ → List ℕ → List ℕ → List ℕ → Type 0
+KeptWithout rules left next before kept = (i : ℕ) → slice_index kept i ≡
+    (if has rules i && not (has left i) then slice_index next i else slice_index before i)
+
+pub keep_more : (rules left lowest rest : ℕ) (next before kept : List ℕ) → lowest < length kept → IsWithoutLowest left lowest rest →
+    has rules lowest ≡ true → KeptWithout rules left next before kept →
+    KeptWithout rules rest next before (slice_set kept lowest (slice_index next lowest))
+keep_more rules left lowest rest next before kept within taken in_rules so_far i = elim (cases_eq i lowest) [
+  | inl here ↦
+      get_or-set_at kept lowest i (slice_index next lowest) 0 here within ∙ ap (λ k. slice_index next k) (sym here) ∙
+      sym (ap (λ b. if b && not (has rest i) then slice_index next i else slice_index before i) (ap (λ k. has rules k) here ∙ in_rules) ∙
+      ap (λ b. if true && not b then slice_index next i else slice_index before i)
+      (ap (λ k. has rest k) here ∙ lowest_gone left lowest rest taken))
+  | inr other ↦
+      get_or-set_other kept lowest i (slice_index next lowest) 0 other ∙ so_far i ∙
+      ap (λ b. if has rules i && not b then slice_index next i else slice_index before i) (sym (others_kept left lowest rest i taken other))
+]
+
+pub keep_none : (rules : ℕ) (next before : List ℕ) → KeptWithout rules rules next before before
+keep_none rules next before i = by_test (has rules i)
+  where
+    by_test : (b : Bool) → slice_index before i ≡ (if b && not b then slice_index next i else slice_index before i)
+    by_test true = refl
+    by_test false = refl
+
+pub keep_all : (rules left : ℕ) (next before kept : List ℕ) → ((k : ℕ) → has left k ≡ false) → KeptWithout rules left next before kept →
+    (i : ℕ) → slice_index kept i ≡ (if has rules i then slice_index next i else slice_index before i)
+keep_all rules left next before kept none so_far i =
+    so_far i ∙ ap (λ b. if has rules i && not b then slice_index next i else slice_index before i) (none i) ∙ by_test (has rules i)
+  where
+    by_test : (b : Bool) → (if b && true then slice_index next i else slice_index before i) ≡
+        (if b then slice_index next i else slice_index before i)
+    by_test true = refl
+    by_test false = refl
+
+-- what a loop over the rules that an exchange can alter has put down of each but those left: the deviation without the part
+
+abbrev pub RestsWithout : List Rule → Scope → ℕ → Games → List ℕ → Type 0
+RestsWithout rules scope left g next = (k : ℕ) (rule : Rule) → slice_get rules k ≡ Some rule → has scope.rules k ≡ true → has left k ≡ false →
+    slice_index next k + deviation_part g scope.main.teams scope.main.rounds scope.turning rule.body ≡ deviation g rule.body
+
+-- the rule at an index is one rule
+one_rule : (rules : List Rule) (k i : ℕ) (one other : Rule) → slice_get rules i ≡ Some one → slice_get rules k ≡ Some other → k ≡ i → one ≡ other
+one_rule rules k i one other here there same =
+    sym (get_or_from_slice_get rules i one one here) ∙ ap (λ j. get_or rules j one) (sym same) ∙ get_or_from_slice_get rules k other one there
+
+pub rest_more : (rules : List Rule) (scope : Scope) (left lowest rest : ℕ) (g : Games) (next : List ℕ) (rule : Rule) (d : ℕ) →
+    lowest < length next → IsWithoutLowest left lowest rest → slice_get rules lowest ≡ Some rule →
+    d + deviation_part g scope.main.teams scope.main.rounds scope.turning rule.body ≡ deviation g rule.body →
+    RestsWithout rules scope left g next → RestsWithout rules scope rest g (slice_set next lowest d)
+rest_more rules scope left lowest rest g next rule d within taken at one so_far k other there in_scope gone = elim (cases_eq k lowest) [
+  | inl here ↦
+      ap (λ n. n + deviation_part g scope.main.teams scope.main.rounds scope.turning other.body)
+      (get_or-set_at next lowest k d 0 here within) ∙
+      subst (λ (r : Rule). d + deviation_part g scope.main.teams scope.main.rounds scope.turning r.body ≡ deviation g r.body)
+      (one_rule rules k lowest rule other at there here) one
+  | inr elsewhere ↦
+      ap (λ n. n + deviation_part g scope.main.teams scope.main.rounds scope.turning other.body)
+      (get_or-set_other next lowest k d 0 elsewhere) ∙
+      so_far k other there in_scope (sym (others_kept left lowest rest k taken elsewhere) ∙ gone)
+]
+
+-- a loop after the exchange adds the part of each rule to what is put down of it
+pub rest_taken : (rules : List Rule) (scope : Scope) (left lowest rest : ℕ) (g : Games) (next : List ℕ) (rule : Rule) (d : ℕ) →
+    lowest < length next → IsWithoutLowest left lowest rest → slice_get rules lowest ≡ Some rule →
+    d ≡ get_or next lowest 0 + deviation_part g scope.main.teams scope.main.rounds scope.turning rule.body →
+    AreRests rules scope left g next → AreRests rules scope rest g (slice_set next lowest d)
+rest_taken rules scope left lowest rest g next rule d within taken at one so_far k other there in_scope = elim (cases_eq k lowest) [
+  | inl here ↦
+      let part = deviation_part g scope.main.teams scope.main.rounds scope.turning other.body in
+      let before : get_or next k 0 + part ≡ deviation g other.body =
+      ap (λ b. get_or next k 0 + (if b then part else 0)) (sym (ap (λ j. has left j) here ∙ taken.in_set)) ∙ so_far k other there in_scope in
+      let same : deviation_part g scope.main.teams scope.main.rounds scope.turning rule.body ≡ part =
+      ap (λ (r : Rule). deviation_part g scope.main.teams scope.main.rounds scope.turning r.body)
+      (one_rule rules k lowest rule other at there here) in
+      let gone : has rest k ≡ false = ap (λ j. has rest j) here ∙ lowest_gone left lowest rest taken in
+      let written : get_or (slice_set next lowest d) k 0 ≡ d = get_or-set_at next lowest k d 0 here within in
+      ap (λ b. get_or (slice_set next lowest d) k 0 + (if b then part else 0)) gone ∙
+      omega (arith, written, one, same, before, ap (λ j. get_or next j 0) here)
+  | inr elsewhere ↦
+      ap (λ n. n + (if has rest k then deviation_part g scope.main.teams scope.main.rounds scope.turning other.body else 0))
+      (get_or-set_other next lowest k d 0 elsewhere) ∙
+      ap (λ b. get_or next k 0 + (if b then deviation_part g scope.main.teams scope.main.rounds scope.turning other.body else 0))
+      (others_kept left lowest rest k taken elsewhere) ∙
+      so_far k other there in_scope
+]
+
+-- what an evaluator shows of its deviations, and what they are
+
+by_known : (kept : List ℕ) (P : List ℕ → Type 0) (known : Bool) → (known ≡ true → P kept) → IfSome (if_known known kept) P
+by_known kept P true is = is refl
+by_known kept P false is = tt
+
+known_by : (kept : List ℕ) (P : List ℕ → Type 0) (known : Bool) → IfSome (if_known known kept) P → known ≡ true → P kept
+known_by kept P true is e = is
+known_by kept P false is e = absurd (true≢false (sym e))
+
+-- what is true if there is a value, where there is one
+pub from_some : {A : Type 0} (o : Option A) (P : Type 0) → is_some o ≡ true → IfSome o (λ _. P) → P
+from_some (Some a) P there is = is
+from_some None P there is = absurd (true≢false (sym there))
+
+pub deviations_at : (rules : List Rule) (g : Games) (held : KeptDeviations) → length held.kept ≡ max_rules → length held.next ≡ max_rules →
+    IfSome (if_known held.is_known held.kept) (AreDeviations rules g) → AreKeptDeviations rules g held
+deviations_at rules g held kept_length next_length is = record {
+  kept_length = kept_length;
+  next_length = next_length;
+  deviations = known_by held.kept (AreDeviations rules g) held.is_known is;
+}
+
+pub known_at : (rules : List Rule) (g : Games) (held : KeptDeviations) → AreKeptDeviations rules g held →
+    IfSome (if_known held.is_known held.kept) (AreDeviations rules g)
+known_at rules g held are = by_known held.kept (AreDeviations rules g) held.is_known are.deviations
+
+-- the same is kept, though less or more is put down of what comes next
+pub still_deviations : (rules : List Rule) (g : Games) (old new : KeptDeviations) → AreKeptDeviations rules g old → IsKeptOf new old →
+    length new.next ≡ max_rules → AreKeptDeviations rules g new
+still_deviations rules g old new are same next_length = record {
+  kept_length = ap length same.kept ∙ are.kept_length;
+  next_length = next_length;
+  deviations = λ known. subst (AreDeviations rules g) (sym same.kept) (are.deviations (sym same.known ∙ known));
+}
+
+-- from the schedule before an exchange to that after it
+module _ (l : LeagueData) (g : Games) (scope : Scope) (is : IsLeague l) (same : teams l ≡ g.teams) (are : IsScope g scope) where
+  abbrev pub after : Games
+  after = exchanged_by g scope.attempt.exchange.now
+
+  pub rests_after : (next : List ℕ) → AreRests l.rules scope scope.rules g next → AreRests l.rules scope scope.rules after next
+  rests_after next rests i rule at in_scope =
+      let balance = body_balances g scope are rule.body (rule_for l g i is same rule at) in
+      let before = ap (λ b. get_or next i 0 +
+      (if b then deviation_part g scope.main.teams scope.main.rounds scope.turning rule.body else 0)) (sym in_scope) ∙
+      rests i rule at in_scope in
+      ap (λ b. get_or next i 0 + (if b then deviation_part after scope.main.teams scope.main.rounds scope.turning rule.body else 0)) in_scope ∙
+      omega (arith, balance, before)
+
+  pub kept_after : KnowsRules l scope → (next kept new : List ℕ) → AreDeviations l.rules g kept → AreRests l.rules scope 0 after next →
+      ((i : ℕ) → slice_index new i ≡ (if has scope.rules i then slice_index next i else slice_index kept i)) →
+      AreDeviations l.rules after new
+  kept_after knows next kept new before rests written i rule at = written i ∙ by_test (has scope.rules i) refl
+    where
+      by_test : (b : Bool) → has scope.rules i ≡ b → (if b then slice_index next i else slice_index kept i) ≡ deviation after rule.body
+      by_test true e =
+          let left = if has 0 i then deviation_part after scope.main.teams scope.main.rounds scope.turning rule.body else 0 in
+          let none : left ≡ 0 =
+          ap (λ b. if b then deviation_part after scope.main.teams scope.main.rounds scope.turning rule.body else 0) (has_empty i) in
+          omega (arith, rests i rule at e, none)
+      by_test false e =
+          let for_rule = rule_for l g i is same rule at in
+          let out = sym (knows.rules i) ∙ e in
+          let none_before = nothing_else_altered g l.rules i rule scope.main.teams scope.main.rounds scope.turning are.can_be_made.round_robin at
+          for_rule knows.sides out in
+          let none_after = nothing_else_altered after l.rules i rule scope.main.teams scope.main.rounds scope.turning
+          (round_robin_after g scope are) at
+          (subst (λ n. IsBodyFor n rule.body) (sym (exchanged-teams g scope.attempt.exchange.now)) for_rule) knows.sides out in
+          omega (arith, before i rule at, body_balances g scope are rule.body for_rule, none_before, none_after)

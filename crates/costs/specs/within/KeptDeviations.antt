@@ -1,0 +1,29 @@
+-- What is kept of the rules' deviations while an exchange is judged.
+use Rattle.std.specs.Prelude.{◌≡◌, ℕ, ◌+◌, true, if◌then◌else◌, List, length, Some, slice_get, slice_index}
+use Rattle.league.specs.Limits.{max_rules}
+use Rattle.league.specs.Sets.{has}
+use Rattle.league.specs.declared.rule.Rule.{Rule}
+use Rattle.fixtures.specs.Games.{Games}
+use Rattle.robinx.specs.Deviations.{deviation}
+use Rattle.robinx.specs.Parts.{deviation_part}
+use Rattle.costs.specs.Evaluators.{AreDeviations}
+use Rattle.costs.specs.declared.kept_deviations.KeptDeviations.{KeptDeviations}
+use Rattle.costs.specs.declared.scope.Scope.{Scope}
+
+-- there is room for each rule, and what is known are the deviations of the schedule
+pub record AreKeptDeviations (rules : List Rule) (g : Games) (held : KeptDeviations) : Type 0 where
+  pub kept_length : length held.kept ≡ max_rules
+  pub next_length : length held.next ≡ max_rules
+  pub deviations : held.is_known ≡ true → AreDeviations rules g held.kept
+
+-- another schedule's deviations with the same that is kept
+pub record IsKeptOf (new old : KeptDeviations) : Type 0 where
+  pub known : new.is_known ≡ old.is_known
+  pub kept : new.kept ≡ old.kept
+
+-- For each rule that the exchange can alter: what of its deviation on a schedule isn't the part that the exchange can alter if the rule is in
+-- a set, otherwise all of it.
+abbrev pub AreRests : List Rule → Scope → ℕ → Games → List ℕ → Type 0
+AreRests rules scope without g next = (i : ℕ) (rule : Rule) → slice_get rules i ≡ Some rule → has scope.rules i ≡ true →
+    slice_index next i + (if has without i then deviation_part g scope.main.teams scope.main.rounds scope.turning rule.body else 0) ≡
+    deviation g rule.body

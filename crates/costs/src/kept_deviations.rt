@@ -1,0 +1,117 @@
+//! The deviations that are kept while exchanges are judged on one schedule after another.
+
+use crate::scope::Scope;
+use fixtures::Schedule;
+use league::limits::MAX_RULES;
+use league::{League, Rule, RuleSet};
+use robinx::{KeptGaps, deviation, deviation_part};
+
+/// How many exchanges are judged while no deviation is known, before all are counted: about as many as cost the same.
+const TRIES: u8 = 16;
+
+/// How far a schedule is from each rule of a league, if that is known, and what FA2 counts.
+#[derive(Drop)]
+pub(crate) struct KeptDeviations {
+    pub(crate) gaps: KeptGaps,
+    pub(crate) is_known: bool,
+    /// The deviation from each rule, if they are known.
+    pub(crate) kept: [u32; MAX_RULES],
+    /// Of each rule that an exchange can alter, the deviation without the part that it can alter, and then the deviation after it.
+    pub(crate) next: [u32; MAX_RULES],
+    /// How many exchanges are judged before the deviations are counted.
+    tries: u8,
+}
+
+impl KeptDeviations {
+    ghost use Rattle.std.specs.Prelude.{◌≡◌, ℕ, ◌<◌, if◌then◌else◌, length, slice_index, true, false};
+    ghost use Rattle.league.specs.League.{teams};
+    ghost use Rattle.league.specs.Limits.{deviation_limit, max_rules};
+    ghost use Rattle.league.specs.RuleLimits.{IsBodyFor};
+    ghost use Rattle.league.specs.Sets.{has, IsBelow};
+    ghost use Rattle.robinx.specs.Deviations.{deviation};
+    ghost use Rattle.robinx.specs.Parts.{deviation_part};
+    ghost use Rattle.costs.specs.within.KeptDeviations.{AreKeptDeviations, IsKeptOf};
+
+    /// Nothing counted yet.
+    pub(crate) fn new() -> KeptDeviations
+        ensures unknown { result.is_known ≡ false }
+        ensures kept_length { length result.kept ≡ max_rules }
+        ensures next_length { length result.next ≡ max_rules }
+    {
+        KeptDeviations {
+            gaps: KeptGaps::new(),
+            is_known: false,
+            kept: [0; MAX_RULES],
+            next: [0; MAX_RULES],
+            tries: TRIES,
+        }
+    }
+
+    /// Forgets the deviations.
+    pub(crate) fn forget(&mut self)
+        ensures unknown { self.new.is_known ≡ false }
+        ensures kept { self.new.kept ≡ self.old.kept }
+        ensures next { self.new.next ≡ self.old.next }
+    {
+        self.is_known = false;
+        self.tries = TRIES;
+    }
+
+    /// Counts the deviations if they aren't known, and enough exchanges were judged without them.
+    pub(crate) fn learn(&mut self, schedule: &Schedule, league: &League)
+        requires same_size { teams league.now ≡ schedule.now.teams }
+        requires deviations { AreKeptDeviations league.now.rules schedule.now self.old }
+        ensures { AreKeptDeviations league.now.rules schedule.now self.new }
+    {
+        prove_eq!(league.teams(), schedule.teams());
+        if self.is_known {
+            return;
+        }
+        if self.tries > 0 {
+            self.tries -= 1;
+            return;
+        }
+        for i in 0..league.rule_count() {
+            self.kept[i] = deviation(schedule, league.rule(i)) as u32;
+        }
+        self.is_known = true;
+    }
+
+    /// The part of a rule's deviation that the exchange can alter, before it. None is counted of a rule that is known not to be broken.
+    pub(crate) fn part_before(
+        &mut self,
+        schedule: &Schedule,
+        rule: &Rule,
+        i: usize,
+        scope: &Scope<'_>,
+    ) -> u64
+        requires body { IsBodyFor schedule.now.teams rule.now.body }
+        requires index { i < length self.old.kept }
+        requires kept { self.old.is_known ≡ true → slice_index self.old.kept i ≡ deviation schedule.now rule.now.body }
+        ensures value { result ≡ deviation_part schedule.now scope.now.main.teams scope.now.main.rounds scope.now.turning rule.now.body }
+        ensures below { result < deviation_limit }
+        ensures same { IsKeptOf self.new self.old }
+        ensures next { self.new.next ≡ self.old.next }
+    {
+        if self.is_known && self.kept[i] == 0 {
+            return 0;
+        }
+        deviation_part(schedule, rule, scope.main, scope.turning, &mut self.gaps)
+    }
+
+    /// Keeps the deviations after the exchange of the rules that it can alter.
+    pub(crate) fn keep(&mut self, rules: RuleSet)
+        requires kept_length { length self.old.kept ≡ max_rules }
+        requires next_length { length self.old.next ≡ max_rules }
+        requires rules { IsBelow max_rules rules }
+        ensures known { self.new.is_known ≡ self.old.is_known }
+        ensures kept_length { length self.new.kept ≡ max_rules }
+        ensures next { self.new.next ≡ self.old.next }
+        ensures kept { (i : ℕ) → slice_index self.new.kept i ≡
+            (if has rules i then slice_index self.old.next i else slice_index self.old.kept i) }
+    {
+        for i in rules {
+            self.kept[i] = self.next[i];
+        }
+    }
+}

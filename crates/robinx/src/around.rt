@@ -1,0 +1,86 @@
+//! The teams of which a change around some teams can alter the games that count.
+
+ghost use Rattle.std.specs.Prelude.{◌≡◌, ℕ, ◌<◌, ◌≤◌, ◌&&◌, ◌||◌};
+ghost use Rattle.league.specs.Limits.{max_teams};
+ghost use Rattle.league.specs.Sets.{has, IsBelow};
+ghost use Rattle.fixtures.specs.Games.{round_count, cell, IsPair, IsDoubleRoundRobin};
+ghost use Rattle.robinx.specs.Parts.{is_guest, meet_in, counts_otherwise};
+
+use crate::looked_past::takes_all_or_none;
+use fixtures::Schedule;
+use league::{SlotSet, TeamSet};
+
+/// A change around some teams: in the rounds the main teams get other games, and only side teams may change their sides.
+#[derive(Clone, Copy, Drop)]
+pub(crate) struct Around {
+    pub main: TeamSet,
+    pub rounds: SlotSet,
+    pub sides: TeamSet,
+}
+
+/// The teams, of these, of which other games may count, against the opponents.
+pub(crate) fn teams_otherwise(
+    schedule: &Schedule,
+    change: &Around,
+    teams: TeamSet,
+    opponents: TeamSet,
+) -> TeamSet
+    requires { IsBelow schedule.now.teams teams }
+    ensures members { (t : ℕ) → has result t ≡ (has teams t &&
+        counts_otherwise schedule.now change.now.main change.now.rounds change.now.sides opponents t) }
+    ensures below { IsBelow schedule.now.teams result }
+{
+    if opponents == TeamSet::below(schedule.teams()) {
+        teams.intersection(change.sides)
+    } else if takes_all_or_none(change.main, opponents) {
+        teams.intersection(change.main)
+    } else {
+        teams_around(schedule, change.main, change.rounds, teams)
+    }
+}
+
+/// The teams, of these, that are main teams or guests, found by the games of the main teams.
+fn teams_around(schedule: &Schedule, main: TeamSet, rounds: SlotSet, teams: TeamSet) -> TeamSet
+    requires round_robin { IsDoubleRoundRobin schedule.now }
+    requires teams { IsBelow schedule.now.teams teams }
+    ensures members { (t : ℕ) → has result t ≡
+        (has teams t && (has main t || is_guest schedule.now (has main) (has rounds) t)) }
+    ensures below { IsBelow schedule.now.teams result }
+{
+    let playing = TeamSet::below(schedule.teams()).intersection(main);
+    let mut around = main;
+    for team in playing {
+        if teams.intersection(around) == teams {
+            return teams;
+        }
+        around = around.union(opponents_in(schedule, rounds, team));
+    }
+    teams.intersection(around)
+}
+
+/// The teams that the team meets in one of the rounds.
+#[inline]
+pub(crate) fn opponents_in(schedule: &Schedule, rounds: SlotSet, team: u8) -> TeamSet
+    requires team { team < schedule.now.teams }
+    requires round_robin { IsDoubleRoundRobin schedule.now }
+    ensures members { (t : ℕ) → IsPair schedule.now.teams t team →
+        has result t ≡ meet_in schedule.now (has rounds) t team }
+    ensures below { IsBelow schedule.now.teams result }
+{
+    let in_season = SlotSet::below(schedule.rounds()).intersection(rounds);
+    let mut met = TeamSet::empty();
+    for round in in_season {
+        met = met.with(schedule.game_at(team, round).opponent);
+    }
+    met
+}
+
+/// Whether the team meets one of the teams in the round.
+pub(crate) fn meets_one_of(schedule: &Schedule, teams: TeamSet, team: u8, round: u8) -> bool
+    requires team { team < schedule.now.teams }
+    requires most { schedule.now.teams ≤ max_teams }
+    requires round { round < round_count schedule.now.teams }
+    ensures { result ≡ has teams (cell schedule.now team round).opponent }
+{
+    teams.has(schedule.game_at(team, round).opponent)
+}
