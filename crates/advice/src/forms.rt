@@ -4,13 +4,13 @@ ghost use Rattle.std.specs.Prelude.{◌≡◌, is_some, option_map};
 ghost use Rattle.serde_json.specs.View.{view, items_view};
 ghost use Rattle.league.specs.Json.{all_items, array_of, number_within};
 ghost use Rattle.league.specs.RuleMembers.{text_member, team_set, slot_set, pairing_from};
-ghost use Rattle.std.specs.List.{list_all};
-ghost use Rattle.league.specs.LeagueMembers.{is_name_byte, text_within};
+ghost use Rattle.league.specs.LeagueMembers.{text_within};
 ghost use Rattle.league.specs.Rosters.{listed_team};
 ghost use Rattle.advice.specs.Firsts.{item_count};
 ghost use Rattle.advice.specs.Rosters.{is_third};
 
 use crate::rosters::Roster;
+use league::number_within;
 use serde_json::Value;
 
 /// The last format of a league's text.
@@ -42,15 +42,6 @@ pub(crate) fn text_member<'a>(rule: &'a Value, name: &str) -> Option<&'a str>
     ensures { option_map (λ text. text.now) result ≡ text_member name.now (view rule.now) }
 {
     rule.get(name).and_then(|member| member.as_str())
-}
-
-/// A whole number from `low` to `high`.
-pub(crate) fn number_within(value: &Value, low: u64, high: u64) -> Option<u64>
-    ensures { result ≡ number_within low high (view value.now) }
-{
-    value
-        .as_u64()
-        .filter(|number| (low..=high).contains(number))
 }
 
 /// Whether the value is an array of numbers from 1 to `most`.
@@ -121,14 +112,7 @@ pub(crate) fn is_text_within(value: &Value, most: usize) -> bool
     ensures { result ≡ is_some (text_within most (view value.now)) }
 {
     match value.as_str() {
-        Some(text) => (1..=most).contains(&text.len()) && has_name_bytes(text.as_bytes()),
+        Some(text) => league::is_text_within(text.as_bytes(), most),
         None => false,
     }
-}
-
-/// Whether there is no control byte.
-pub(crate) fn has_name_bytes(text: &[u8]) -> bool
-    ensures { result ≡ list_all is_name_byte text.now }
-{
-    text.iter().all(|b| *b >= 32 && *b != 127)
 }

@@ -2,7 +2,6 @@
 
 ghost use Rattle.std.specs.Prelude.{◌≡◌, ◌+◌, ◌^◌, ◌<◌};
 ghost use Rattle.serde_json.specs.View.{view};
-ghost use Rattle.league.specs.Messages.{member_name};
 ghost use Rattle.advice.specs.Members.{field_hint, no_rule, no_rule_at, rules_hint, wanted_in, whole_hint};
 
 use crate::forms::{LAST_FORMAT, item_count};
@@ -20,7 +19,7 @@ pub(crate) fn field_hint(league: &Value, field: Field) -> Hint
     let wanted = wanted_in(field);
     Hint::Value(
         Place::League(field),
-        seen_of(league, member_name(field), wanted),
+        seen_of(league, field.name(), wanted),
         wanted,
     )
 }
@@ -81,26 +80,5 @@ fn wanted_in(field: Field) -> Wanted
         Field::Short => Wanted::ShortNames,
         Field::Rounds => Wanted::RoundTexts,
         Field::Repeats => Wanted::Repeats,
-    }
-}
-
-/// The member's JSON name.
-fn member_name(field: Field) -> &'static str
-    ensures { result.now ≡ member_name field }
-{
-    match field {
-        Field::Whole => "text",
-        Field::Format => "format",
-        Field::Teams => "teams",
-        Field::Distances => "distances",
-        Field::AtMost => "at_most",
-        Field::HardWeight => "hard_weight",
-        Field::Rules => "rules",
-        Field::Start => "start",
-        Field::Phased => "phased",
-        Field::Name => "name",
-        Field::Short => "short",
-        Field::Rounds => "rounds",
-        Field::Repeats => "repeats",
     }
 }

@@ -8,10 +8,11 @@ ghost use Rattle.league.specs.RuleMembers.{any_side_member, each_member, games_m
 ghost use Rattle.advice.specs.Needs.{member_of, wanted_games, wanted_of, wanted_teams, is_kind, are_in_order, is_met};
 ghost use Rattle.advice.specs.within.Needs.{number_member};
 
-use crate::forms::{is_game_array, is_slot_set, is_team_set, number_within, text_member};
+use crate::forms::{is_game_array, is_slot_set, is_team_set, text_member};
 use crate::hint::{RuleMember, Wanted};
 use crate::rosters::Roster;
 use league::limits::{MAX_COUNT, MAX_WEIGHT, round_count};
+use league::number_within;
 use serde_json::Value;
 
 /// The need of a class, of a member.

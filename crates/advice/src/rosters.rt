@@ -11,7 +11,7 @@ ghost use Rattle.league.specs.Rosters.{roster_data, listed_team, number_named};
 ghost use Rattle.advice.specs.Rosters.{first_no_game, first_unlisted, first_wrong_in_games, first_wrong_name, is_name, names_of};
 ghost use Rattle.advice.specs.Rosters.{wrong_name};
 
-use crate::forms::number_within;
+use league::number_within;
 use serde_json::Value;
 use std::marker::Model;
 

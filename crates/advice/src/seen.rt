@@ -5,11 +5,12 @@ ghost use Rattle.serde_json.specs.Find.{get};
 ghost use Rattle.serde_json.specs.View.{view, items_view};
 ghost use Rattle.advice.specs.Seen.{first_no_text, first_outside, length_of, rule_seen, seen, seen_in, seen_of, whole, wrong_item, wrong_listed};
 
-use crate::forms::{is_text_within, number_within};
+use crate::forms::is_text_within;
 use crate::hint::{Seen, Wanted};
 use crate::rosters::Roster;
 use json_forms::Form;
 use league::limits::{MAX_ROUND_TEXT, MAX_SHORT_NAME};
+use league::number_within;
 use serde_json::Value;
 
 /// The form that an object has for a member of this name, where this is wanted.

@@ -4,9 +4,10 @@ ghost use Rattle.std.specs.Prelude.{◌≡◌, ◌+◌, ◌^◌, ◌<◌};
 ghost use Rattle.serde_json.specs.View.{view};
 ghost use Rattle.advice.specs.Teams.{wrong_text, wrong_name, team_hint, teams_hint};
 
-use crate::forms::{has_name_bytes, item_count};
+use crate::forms::item_count;
 use crate::hint::{Hint, Place, Seen, Wanted};
 use json_forms::{Form, Quote};
+use league::is_text_within;
 use league::limits::MAX_NAME;
 use serde_json::Value;
 
@@ -44,8 +45,10 @@ fn wrong_name(value: &Value) -> Option<Seen>
 fn wrong_text(name: &str) -> Option<Seen>
     ensures { result ≡ wrong_text name.now }
 {
-    if (1..=MAX_NAME).contains(&name.len()) {
-        (!has_name_bytes(name.as_bytes())).then_some(Seen::ControlByte(Quote::of(name)))
+    if is_text_within(name.as_bytes(), MAX_NAME) {
+        None
+    } else if (1..=MAX_NAME).contains(&name.len()) {
+        Some(Seen::ControlByte(Quote::of(name)))
     } else {
         Some(Seen::Bytes(Quote::of(name), name.len()))
     }

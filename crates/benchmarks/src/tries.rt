@@ -146,7 +146,7 @@ fn try_move(
         exchange: &exchange,
         known: known.cost,
         weight: league.hard_weight(),
-        most: known.score.saturating_add(slack),
+        limit: known.score.saturating_add(slack),
     };
     let Some(cost) = make_within(schedule, league, evaluator, &attempt) else {
         return TryEnd::Withdrawn;

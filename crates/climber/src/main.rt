@@ -1,6 +1,6 @@
 //! A search of one's own over the board, as a researcher would write it: a hill climber, alone and then in two threads.
 //!
-//! What the climber alone finds is printed as `ttp search` prints it, so its history is a script for `ttp play`. What two
+//! The search of the climber alone is printed as `ttp search` prints it, so its history is a script for `ttp play`. What two
 //! threads find depends on how they take turns, so of them only what holds each time is printed.
 #![tactic(auto)]
 

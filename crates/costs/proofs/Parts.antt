@@ -240,10 +240,10 @@ rest_scores l weight scope after rest is =
     subst (λ cost. score_by weight rest ≤ score_by weight cost) is (score_grows weight rest (penalties_part l scope after))
 
 -- a cost within a limit is a small one
-pub within_is_small : (l : LeagueData) (weight : ℕ) (g : Games) (most : ℕ) (cost : Option Cost) → IsCostWithin l weight most g cost →
+pub within_is_small : (l : LeagueData) (weight : ℕ) (g : Games) (limit : ℕ) (cost : Option Cost) → IsCostWithin l weight limit g cost →
     score_of l (cost_of l g) < score_limit → IfSome cost (λ cost. score_of l cost < score_limit)
-within_is_small l weight g most (Some cost) within below = subst (λ cost. score_of l cost < score_limit) (sym within.0) below
-within_is_small l weight g most None within below = tt
+within_is_small l weight g limit (Some cost) within below = subst (λ cost. score_of l cost < score_limit) (sym within.0) below
+within_is_small l weight g limit None within below = tt
 
 -- no score is above the greatest limit
 pub within_greatest : (l : LeagueData) (weight : ℕ) (g : Games) (result : Option Cost) → IsCostWithin l weight 18446744073709551615 g result →

@@ -88,15 +88,15 @@ unphased_le g forty =
           (λ i j below under. if_le (is_unphased g i j) 1 1 (λ _. omega arith)),
     )
 
-unless_le : (free : Bool) (count most : ℕ) → count ≤ most → (if free then 0 else count) ≤ most
-unless_le true count most le = omega arith
-unless_le false count most le = le
+unless_le : (free : Bool) (count limit : ℕ) → count ≤ limit → (if free then 0 else count) ≤ limit
+unless_le true count limit le = omega arith
+unless_le false count limit le = le
 
-unless_free_le : (l : LeagueData) (count most : ℕ) → count ≤ most → unless_free l count ≤ most
-unless_free_le l count most le = unless_le l.free_repeats count most le
+unless_free_le : (l : LeagueData) (count limit : ℕ) → count ≤ limit → unless_free l count ≤ limit
+unless_free_le l count limit le = unless_le l.free_repeats count limit le
 
-where_phased_le : (l : LeagueData) (count most : ℕ) → count ≤ most → where_phased l count ≤ most
-where_phased_le l count most le = if_le l.phased count most (λ _. le)
+where_phased_le : (l : LeagueData) (count limit : ℕ) → count ≤ limit → where_phased l count ≤ limit
+where_phased_le l count limit le = if_le l.phased count limit (λ _. le)
 
 hard_penalty_le : (weight : Weight) (deviation : ℕ) → hard_penalty weight deviation ≤ deviation
 hard_penalty_le Hard deviation = omega arith
@@ -108,26 +108,26 @@ soft_penalty_le Hard deviation is few = omega arith
 soft_penalty_le (Soft weight) deviation is few = omega (arith, mul-le-mul is.1 few)
 
 -- the sum over the rules, where no rule adds more than this
-penalty_le : (l : LeagueData) (g : Games) (penalty : Weight → ℕ → ℕ) (most : ℕ) → IsLeague l →
-    ((rule : Rule) → IsRuleFor (teams l) rule → penalty rule.weight (deviation g rule.body) ≤ most) →
-    (i : ℕ) (rule : Option Rule) → slice_get l.rules i ≡ rule → penalty_of penalty g rule ≤ most
-penalty_le l g penalty most is each i None at = omega arith
-penalty_le l g penalty most is each i (Some rule) at =
+penalty_le : (l : LeagueData) (g : Games) (penalty : Weight → ℕ → ℕ) (limit : ℕ) → IsLeague l →
+    ((rule : Rule) → IsRuleFor (teams l) rule → penalty rule.weight (deviation g rule.body) ≤ limit) →
+    (i : ℕ) (rule : Option Rule) → slice_get l.rules i ≡ rule → penalty_of penalty g rule ≤ limit
+penalty_le l g penalty limit is each i None at = omega arith
+penalty_le l g penalty limit is each i (Some rule) at =
     each rule
     (subst (IsRuleFor (teams l)) (get_or_from_slice_get l.rules i rule rule at)
     (All-get_or (IsRuleFor (teams l)) l.rules i rule (slice_get_within l.rules i rule at)
     (All-from_recursion (IsRuleFor (teams l)) l.rules is.rules)))
 
-sum_over_rules_le : (l : LeagueData) (g : Games) (penalty : Weight → ℕ → ℕ) (most : ℕ) → IsLeague l →
-    ((rule : Rule) → IsRuleFor (teams l) rule → penalty rule.weight (deviation g rule.body) ≤ most) →
-    sum_over_rules penalty l.rules g ≤ max_rules * most
+sum_over_rules_le : (l : LeagueData) (g : Games) (penalty : Weight → ℕ → ℕ) (limit : ℕ) → IsLeague l →
+    ((rule : Rule) → IsRuleFor (teams l) rule → penalty rule.weight (deviation g rule.body) ≤ limit) →
+    sum_over_rules penalty l.rules g ≤ max_rules * limit
 unfolding sum_over_rules
-sum_over_rules_le l g penalty most is each =
+sum_over_rules_le l g penalty limit is each =
     omega (
       arith,
-      mul-le-mul is.rule_count (le_refl most),
-      sum_below_le (length l.rules) most (λ i. penalty_of penalty g (slice_get l.rules i))
-          (λ i under. penalty_le l g penalty most is each i (slice_get l.rules i) refl),
+      mul-le-mul is.rule_count (le_refl limit),
+      sum_below_le (length l.rules) limit (λ i. penalty_of penalty g (slice_get l.rules i))
+          (λ i under. penalty_le l g penalty limit is each i (slice_get l.rules i) refl),
     )
 
 deviation_of : (l : LeagueData) (g : Games) (rule : Rule) → g.teams ≡ teams l → g.teams ≤ max_teams → IsRuleFor (teams l) rule →
@@ -194,13 +194,13 @@ pub score_fits : (l : LeagueData) (g : Games) (weight : ℕ) → IsLeague l → 
     score_by weight (cost_of l g) < 2 ^ 64
 score_fits l g weight is same few =
     let forty : g.teams ≤ max_teams = omega (arith, is.table.most) in
-    let most : weight ≤ 4294967295 = omega arith in
+    let limit : weight ≤ 4294967295 = omega arith in
     omega (
       arith,
       cost_travel l g,
       travel_le l g is forty,
       soft_le l g is same forty,
-      mul-le-mul most (hard_le l g is same forty),
+      mul-le-mul limit (hard_le l g is same forty),
     )
 
 pub cost_small : (l : LeagueData) (g : Games) → IsLeague l → teams l ≡ g.teams → IsSmall (cost_of l g)

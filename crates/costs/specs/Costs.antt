@@ -68,8 +68,8 @@ total_of cost = cost.travel + cost.soft
 
 -- the cost of the games if their score by this weight is at most this, and none if it is more
 abbrev pub IsCostWithin : LeagueData → ℕ → ℕ → Games → Option Cost → Type 0
-IsCostWithin l weight most g (Some cost) = (cost ≡ cost_of l g) × (score_by weight cost ≤ most)
-IsCostWithin l weight most g None = most < score_by weight (cost_of l g)
+IsCostWithin l weight limit g (Some cost) = (cost ≡ cost_of l g) × (score_by weight cost ≤ limit)
+IsCostWithin l weight limit g None = limit < score_by weight (cost_of l g)
 
 -- no score of a league's schedules by its own weight reaches this
 abbrev pub score_limit : ℕ

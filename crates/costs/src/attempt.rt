@@ -3,7 +3,7 @@
 use crate::cost::Cost;
 use fixtures::Exchange;
 
-/// An exchange to be made on a schedule of known cost, if the score after it by this weight is at most `most`.
+/// An exchange to be made on a schedule of known cost, if the score after it by this weight is at most `limit`.
 #[derive(Clone, Copy)]
 pub struct Attempt<'a> {
     /// The exchange.
@@ -13,5 +13,5 @@ pub struct Attempt<'a> {
     /// The weight of each breach of a hard limit in the score by which the exchange is judged: at least 1.
     pub weight: u32,
     /// The greatest score after it with which it is made.
-    pub most: u64,
+    pub limit: u64,
 }

@@ -27,14 +27,14 @@ pub(crate) fn predicted_within(
     requires can_be_made { IsExchange schedule.now attempt.now.exchange.now }
     requires known { attempt.now.known ≡ cost_of league.now schedule.now }
     ensures { MatchOption result
-        (attempt.now.most < score_by attempt.now.weight (cost_of league.now (exchanged_by schedule.now attempt.now.exchange.now)))
+        (attempt.now.limit < score_by attempt.now.weight (cost_of league.now (exchanged_by schedule.now attempt.now.exchange.now)))
         (λ predicted. IsPredicted league.now schedule.now attempt.now.exchange.now predicted) }
 {
     prove_eq!(league.teams(), schedule.teams());
     let exchange = attempt.exchange;
-    let (known, most) = (attempt.known, attempt.most);
+    let (known, limit) = (attempt.known, attempt.limit);
     let travel = travel_after(schedule, league, exchange, known.travel);
-    if travel > most {
+    if travel > limit {
         return None;
     }
     let runs = runs_of(schedule, league, exchange);
@@ -43,7 +43,7 @@ pub(crate) fn predicted_within(
         hard: runs.after,
         soft: 0,
     };
-    if least.score_by(attempt.weight) > most {
+    if least.score_by(attempt.weight) > limit {
         return None;
     }
     let repeats = repeats_delta(schedule, league, exchange);
@@ -61,7 +61,7 @@ fn repeats_delta(schedule: &Schedule, league: &League, exchange: &Exchange) -> C
     requires { IsExchange schedule.now exchange.now }
     ensures balance { unless_free league.now (repeats (exchanged_by schedule.now exchange.now)) + result.before ≡
         unless_free league.now (repeats schedule.now) + result.after }
-    ensures after_most { result.after ≤ 4 * max_teams }
+    ensures after_limit { result.after ≤ 4 * max_teams }
 {
     if league.free_repeats() {
         return CountDelta {
@@ -85,7 +85,7 @@ fn leaving_of(schedule: &Schedule, league: &League, exchange: &Exchange) -> Leav
     requires can_be_made { IsExchange schedule.now exchange.now }
     ensures balance { near_cost league.now (exchanged_by schedule.now exchange.now) + result.before ≡
         near_cost league.now schedule.now + result.after }
-    ensures after_most { result.after ≤ max_weight * (2 * max_rounds) }
+    ensures after_limit { result.after ≤ max_weight * (2 * max_rounds) }
 {
     let near = u64::from(league.near());
     if near == 0 {

@@ -65,7 +65,7 @@ pub(crate) fn rest_within(
     requires deviations { AreKeptDeviations league.now.rules schedule.now deviations.old }
     requires predicted { IsPredicted league.now schedule.now scope.now.attempt.exchange.now predicted }
     ensures rest { MatchOption result
-        (scope.now.attempt.most < score_by scope.now.attempt.weight (cost_of league.now (exchanged_by schedule.now scope.now.attempt.exchange.now)))
+        (scope.now.attempt.limit < score_by scope.now.attempt.weight (cost_of league.now (exchanged_by schedule.now scope.now.attempt.exchange.now)))
         (λ rest. IsRest league.now scope.now (exchanged_by schedule.now scope.now.attempt.exchange.now) rest) }
     ensures deviations { AreKeptDeviations league.now.rules schedule.now deviations.new }
     ensures same { IsKeptOf deviations.new deviations.old }
@@ -74,8 +74,8 @@ pub(crate) fn rest_within(
     prove_eq!(league.teams(), schedule.teams());
     let rest = rest_of(schedule, league, deviations, scope, predicted);
     let score = rest.score_by(scope.attempt.weight);
-    let most = scope.attempt.most;
-    if score > most || !leaves_room(schedule, league, &mut deviations.gaps, scope, most - score) {
+    let limit = scope.attempt.limit;
+    if score > limit || !leaves_room(schedule, league, &mut deviations.gaps, scope, limit - score) {
         return None;
     }
     Some(rest)
@@ -95,19 +95,19 @@ pub(crate) fn whole_within(
     requires rest { IsRest league.now scope.now schedule.now rest }
     requires next_length { length deviations.old.next ≡ max_rules }
     requires rests { deviations.old.is_known ≡ true → AreRests league.now.rules scope.now scope.now.rules schedule.now deviations.old.next }
-    ensures cost { IsCostWithin league.now scope.now.attempt.weight scope.now.attempt.most schedule.now result }
+    ensures cost { IsCostWithin league.now scope.now.attempt.weight scope.now.attempt.limit schedule.now result }
     ensures same { IsKeptOf deviations.new deviations.old }
     ensures next_length { length deviations.new.next ≡ max_rules }
     ensures all { IfSome result (λ _. deviations.new.is_known ≡ true → AreRests league.now.rules scope.now 0 schedule.now deviations.new.next) }
 {
     prove_eq!(league.teams(), schedule.teams());
-    let (weight, most) = (scope.attempt.weight, scope.attempt.most);
+    let (weight, limit) = (scope.attempt.weight, scope.attempt.limit);
     let mut cost = Cost {
         hard: rest.hard + phases_part(schedule, league, scope.main),
         ..rest
     };
     for i in scope.rules {
-        if cost.score_by(weight) > most {
+        if cost.score_by(weight) > limit {
             return None;
         }
         let rule = league.rule(i);
@@ -123,7 +123,7 @@ pub(crate) fn whole_within(
         cost.hard += added.hard;
         cost.soft += added.soft;
     }
-    if cost.score_by(weight) > most {
+    if cost.score_by(weight) > limit {
         return None;
     }
     Some(cost)
@@ -132,7 +132,7 @@ pub(crate) fn whole_within(
 /// The breaches of the pairs that the exchange can change, if the league is phased.
 fn phases_part(schedule: &Schedule, league: &League, main: Touched) -> u64
     ensures value { result ≡ where_phased league.now (unphased_part schedule.now (has main.teams)) }
-    ensures most { result ≤ max_teams * max_teams }
+    ensures limit { result ≤ max_teams * max_teams }
 {
     if league.phased() {
         unphased_part(schedule, main)

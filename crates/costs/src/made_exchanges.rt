@@ -40,7 +40,7 @@ pub fn make_at_cost(
         exchange,
         known,
         weight: 1,
-        most: u64::MAX,
+        limit: u64::MAX,
     };
     make_within(schedule, league, evaluator, &attempt).unwrap()
 }
@@ -60,7 +60,7 @@ pub fn make_within(
     requires can_be_made { IsExchange schedule.old attempt.now.exchange.now }
     requires known { attempt.now.known ≡ cost_of league.now schedule.old }
     requires weight { 1 ≤ attempt.now.weight }
-    ensures value { IsCostWithin league.now attempt.now.weight attempt.now.most (exchanged_by schedule.old attempt.now.exchange.now) result }
+    ensures value { IsCostWithin league.now attempt.now.weight attempt.now.limit (exchanged_by schedule.old attempt.now.exchange.now) result }
     ensures schedule { MatchOption result (schedule.new ≡ schedule.old)
         (λ cost. schedule.new ≡ exchanged_by schedule.old attempt.now.exchange.now) }
     ensures again { IsExchange schedule.new attempt.now.exchange.now }
@@ -72,7 +72,7 @@ pub fn make_within(
     let predicted = predicted_within(schedule, league, attempt)?;
     let exchange = attempt.exchange;
     if league.rule_count() == 0 && !league.phased() {
-        if predicted.score_by(attempt.weight) > attempt.most {
+        if predicted.score_by(attempt.weight) > attempt.limit {
             return None;
         }
         exchange.make(schedule);

@@ -39,7 +39,7 @@ pub fn cost_of(schedule: &Schedule, league: &League) -> Cost
 /// How many repeats there are. None is counted if they are free. Takes no memory.
 pub fn counted_repeats(schedule: &Schedule, league: &League) -> u64
     ensures value { result ≡ unless_free league.now (repeats schedule.now) }
-    ensures most { result ≤ max_rounds * max_teams }
+    ensures limit { result ≤ max_rounds * max_teams }
 {
     if league.free_repeats() {
         0
@@ -52,7 +52,7 @@ pub fn counted_repeats(schedule: &Schedule, league: &League) -> u64
 fn near_cost(schedule: &Schedule, league: &League) -> u64
     requires { teams league.now ≡ schedule.now.teams }
     ensures value { result ≡ near_cost league.now schedule.now }
-    ensures most { result ≤ max_weight * (max_teams * max_teams) }
+    ensures limit { result ≤ max_weight * (max_teams * max_teams) }
 {
     let near = u64::from(league.near());
     if near == 0 {

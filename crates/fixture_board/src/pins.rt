@@ -144,7 +144,7 @@ impl Pins {
     fn pin_if_kept(&mut self, league: &League, home: u8, away: u8)
         requires home { home < teams league.now }
         requires away { away < teams league.now }
-        requires most { teams league.now ≤ max_teams }
+        requires limit { teams league.now ≤ max_teams }
         ensures { (passes : ℕ → ℕ → Bool) → AreBegun league.now passes self.old →
             AreBegun league.now (λ h a. passes h a || (h == home && a == away)) self.new }
     {

@@ -47,7 +47,7 @@ fn asked(workers: u32, effort: u64) -> ImprovePlan
     }
 }
 
-/// What an improvement came to: how it ended, how often it wrote, and what went out.
+/// The outcome of an improvement: how it ended, how often it wrote, and what went out.
 #[derive(Debug, Drop, PartialEq)]
 struct Improved {
     ended: Result<Option<Best>, ImproveFault>,

@@ -80,7 +80,7 @@ impl FirstHalf {
         1 + self.groups * if self.loose == 0 { 1 } else { 3 }
     }
 
-    /// The part of the chain of a number.
+    /// The bout of the chain of a number.
     pub(crate) fn bout(self, number: u32) -> Bout
         ensures value { result ≡ bout_in_first_half self number }
         ensures steps { number ≡ 0 → 1 ≤ result.first.steps }

@@ -29,7 +29,7 @@ pub(crate) const EARLY_PART: u64 = 16;
 pub(crate) const RIGID_SPANS: u64 = 8;
 
 pub(crate) const RIGID_MOST: u64 = 3_000_000;
-/// The number of a loose one.
+/// The length of a loose chain, and the most steps that it has.
 pub(crate) const LOOSE_SPANS: u64 = 16;
 
 pub(crate) const LOOSE_MOST: u64 = 6_000_000;

@@ -304,7 +304,7 @@ impl Plan {
         ensures cools { IfSome result (λ next. DoesCool next.course) }
     {
         let bout = self.bout(number);
-        self.hear(leg, ended);
+        self.observe(leg, ended);
         if leg != bout.first {
             return None;
         }
@@ -316,7 +316,7 @@ impl Plan {
     }
 
     /// Observes a leg that ended, for the next ones.
-    fn hear(&mut self, leg: Leg, ended: LegEnd)
+    fn observe(&mut self, leg: Leg, ended: LegEnd)
         ensures { self.new ≡ plan_after self.old leg ended }
     {
         let is_feasible = ended.best.is_some();

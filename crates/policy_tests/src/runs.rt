@@ -23,7 +23,7 @@ const EFFORTS: [u64; 13] = [
     1_000_000_000,
 ];
 
-/// What is walked: the teams, the effort and the kind.
+/// A walk: the teams, the effort and the kind.
 type Setting = (u8, u64, Kind);
 
 #[derive(Clone, Copy, Debug, PartialEq, Eq)]

@@ -12,12 +12,12 @@ const MANY_WAVES: u32 = 100;
 #[derive(Clone, Copy, Debug, PartialEq, Eq)]
 pub(crate) enum Feasible {
     All,
-    /// Those that heat.
+    /// The legs that heat.
     Heated,
     None,
 }
 
-/// What is walked, and how.
+/// A walk, and how it goes.
 #[derive(Clone, Copy, Debug, PartialEq, Eq)]
 pub(crate) struct Walk {
     pub(crate) facts: Facts,
@@ -36,7 +36,7 @@ pub(crate) struct Place {
     pub(crate) leg: u32,
 }
 
-/// What a walk came to.
+/// The outcome of a walk.
 #[derive(Default, Clone, Copy, Debug, PartialEq, Eq)]
 pub(crate) struct Totals {
     pub(crate) waves: u32,
@@ -79,7 +79,7 @@ impl Walker {
         }
     }
 
-    /// What a leg comes to. One that heats becomes feasible after one to five thousand steps, or never.
+    /// The end of a leg. One that heats becomes feasible after one to five thousand steps, or never.
     fn ended(&self, bout: u32, leg: Leg) -> LegEnd
         ensures { result.steps ≤ leg.steps }
     {

@@ -6,13 +6,13 @@ ghost use Rattle.report_formats.specs.Table.{byte_of};
 /// How a table of games is written as CSV.
 #[derive(Clone, Copy, Debug, PartialEq, Eq)]
 pub struct CsvForm {
-    /// What parts the cells of a line.
+    /// The byte that parts the cells of a line.
     pub separator: Separator,
     /// Whether a byte order mark stands before the head line.
     pub has_mark: bool,
 }
 
-/// What parts the cells of a line.
+/// The byte that parts the cells of a line.
 #[derive(Clone, Copy, Debug, PartialEq, Eq)]
 pub enum Separator {
     Comma,

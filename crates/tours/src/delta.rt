@@ -46,7 +46,7 @@ pub fn legs_of(schedule: &Schedule, league: &League, exchange: &Exchange) -> Tra
     requires can_be_made { IsExchange schedule.now exchange.now }
     ensures balance { travel league.now (exchanged_by schedule.now exchange.now) + result.before ≡
         travel league.now schedule.now + result.after }
-    ensures after_most { result.after ≤ (8 * max_rounds + 2) * max_distance }
+    ensures after_limit { result.after ≤ (8 * max_rounds + 2) * max_distance }
 {
     match *exchange {
         Exchange::Rounds { k, l, among } => legs_of_rounds(schedule, league, k, l, among),
@@ -61,7 +61,7 @@ pub fn runs_of(schedule: &Schedule, league: &League, exchange: &Exchange) -> Cou
     ensures balance { runs_over (exchanged_by schedule.now exchange.now) league.now.at_most + result.before ≡
         runs_over schedule.now league.now.at_most + result.after }
     ensures within { result.before ≤ runs_over schedule.now league.now.at_most }
-    ensures after_most { result.after ≤ max_teams * max_rounds }
+    ensures after_limit { result.after ≤ max_teams * max_rounds }
 {
     match *exchange {
         Exchange::Rounds { k, l, among } => runs_of_rounds(schedule, league, k, l, among),
@@ -74,7 +74,7 @@ pub fn repeats_of(schedule: &Schedule, exchange: &Exchange) -> CountDelta
     requires { IsExchange schedule.now exchange.now }
     ensures balance { repeats (exchanged_by schedule.now exchange.now) + result.before ≡
         repeats schedule.now + result.after }
-    ensures after_most { result.after ≤ 4 * max_teams }
+    ensures after_limit { result.after ≤ 4 * max_teams }
 {
     match *exchange {
         Exchange::Rounds { k, l, among } => repeats_of_rounds(schedule, k, l, among),
@@ -88,8 +88,8 @@ pub fn moved_of(schedule: &Schedule, league: &League, exchange: &Exchange) -> Mo
     requires can_be_made { IsExchange schedule.now exchange.now }
     ensures balance { moved_games league.now (exchanged_by schedule.now exchange.now) + result.before ≡
         moved_games league.now schedule.now + result.after }
-    ensures before_most { result.before ≤ 2 * max_rounds }
-    ensures after_most { result.after ≤ 2 * max_rounds }
+    ensures before_limit { result.before ≤ 2 * max_rounds }
+    ensures after_limit { result.after ≤ 2 * max_rounds }
 {
     match *exchange {
         Exchange::Rounds { k, l, among } => moved_of_rounds(schedule, league, k, l, among),

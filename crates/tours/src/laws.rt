@@ -16,8 +16,8 @@ ghost use Rattle.tours.specs.Parts.{travel_part, runs_part, repeats_part};
 pub fn parts_balance()
     ensures travel { (l : LeagueData) (g g' : Games) (teams rounds : ℕ → Bool) → DiffersOnlyIn g g' teams rounds →
         travel l g' + travel_part l g teams rounds ≡ travel l g + travel_part l g' teams rounds }
-    ensures runs { (g g' : Games) (most : ℕ) (teams rounds : ℕ → Bool) → DiffersOnlyIn g g' teams rounds →
-        runs_over g' most + runs_part g most teams rounds ≡ runs_over g most + runs_part g' most teams rounds }
+    ensures runs { (g g' : Games) (limit : ℕ) (teams rounds : ℕ → Bool) → DiffersOnlyIn g g' teams rounds →
+        runs_over g' limit + runs_part g limit teams rounds ≡ runs_over g limit + runs_part g' limit teams rounds }
     ensures repeats { (g g' : Games) (teams rounds : ℕ → Bool) → DiffersOnlyIn g g' teams rounds →
         repeats g' + repeats_part g rounds ≡ repeats g + repeats_part g' rounds }
     ensures unphased { (g g' : Games) (teams rounds : ℕ → Bool) → IsDoubleRoundRobin g → IsDoubleRoundRobin g' →

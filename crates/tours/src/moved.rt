@@ -15,7 +15,7 @@ use league::League;
 pub fn moved_games(schedule: &Schedule, league: &League) -> u64
     requires { teams league.now ≡ schedule.now.teams }
     ensures value { result ≡ moved_games league.now schedule.now }
-    ensures most { result ≤ max_teams * max_teams }
+    ensures limit { result ≤ max_teams * max_teams }
 {
     let mut moved = 0;
     for home in 0..schedule.teams() {
@@ -30,7 +30,7 @@ fn moved_at_home(schedule: &Schedule, league: &League, home: u8) -> u64
     requires same { teams league.now ≡ schedule.now.teams }
     requires home { home < schedule.now.teams }
     ensures value { result ≡ count_where schedule.now.teams (is_moved (start_round league.now) schedule.now home) }
-    ensures most { result ≤ max_teams }
+    ensures limit { result ≤ max_teams }
 {
     let mut moved = 0;
     for away in 0..schedule.teams() {

@@ -32,8 +32,8 @@ pub(crate) fn moved_of_rounds(
     requires closed { IsClosed (plays_in schedule.now k l) (has among) }
     ensures balance { moved_games league.now (rounds_exchanged schedule.now k l (has among)) + result.before ≡
         moved_games league.now schedule.now + result.after }
-    ensures before_most { result.before ≤ 2 * max_teams }
-    ensures after_most { result.after ≤ 2 * max_teams }
+    ensures before_limit { result.before ≤ 2 * max_teams }
+    ensures after_limit { result.after ≤ 2 * max_teams }
 {
     let teams = teams_in(schedule, among);
     let mut before = 0;
@@ -58,8 +58,8 @@ fn moved_of_team(schedule: &Schedule, league: &League, k: u8, l: u8, team: u8) -
     ensures after { result.after ≡
         home_moved (start_round league.now) team (cell schedule.now team l) k +
         home_moved (start_round league.now) team (cell schedule.now team k) l }
-    ensures before_most { result.before ≤ 2 }
-    ensures after_most { result.after ≤ 2 }
+    ensures before_limit { result.before ≤ 2 }
+    ensures after_limit { result.after ≤ 2 }
 {
     let in_k = moved_at_home(league, team, schedule.game_at(team, k), k, l);
     let in_l = moved_at_home(league, team, schedule.game_at(team, l), l, k);
@@ -74,8 +74,8 @@ fn moved_at_home(league: &League, team: u8, game: Cell, before: u8, after: u8) -
     requires { IsPair (teams league.now) team game.opponent }
     ensures before { result.before ≡ home_moved (start_round league.now) team game before }
     ensures after { result.after ≡ home_moved (start_round league.now) team game after }
-    ensures before_most { result.before ≤ 1 }
-    ensures after_most { result.after ≤ 1 }
+    ensures before_limit { result.before ≤ 1 }
+    ensures after_limit { result.after ≤ 1 }
 {
     if !game.home {
         return MovedDelta {
@@ -109,8 +109,8 @@ pub(crate) fn moved_of_teams(
     requires closed { IsClosed (shares_opponent schedule.now i j) (has among) }
     ensures balance { moved_games league.now (teams_exchanged schedule.now i j (has among)) + result.before ≡
         moved_games league.now schedule.now + result.after }
-    ensures before_most { result.before ≤ 2 * max_rounds }
-    ensures after_most { result.after ≤ 2 * max_rounds }
+    ensures before_limit { result.before ≤ 2 * max_rounds }
+    ensures after_limit { result.after ≤ 2 * max_rounds }
 {
     prove!(4 <= schedule.teams());
     let rounds = rounds_in(schedule, among);
@@ -138,8 +138,8 @@ fn moved_of_two(schedule: &Schedule, league: &League, i: u8, j: u8, round: u8) -
     ensures after { result.after ≡
         cell_moved (start_round league.now) j (cell schedule.now i round) round +
         cell_moved (start_round league.now) i (cell schedule.now j round) round }
-    ensures before_most { result.before ≤ 2 }
-    ensures after_most { result.after ≤ 2 }
+    ensures before_limit { result.before ≤ 2 }
+    ensures after_limit { result.after ≤ 2 }
 {
     let of_i = schedule.game_at(i, round);
     let of_j = schedule.game_at(j, round);
@@ -154,7 +154,7 @@ fn moved_in(league: &League, team: u8, game: Cell, round: u8) -> u64
     requires home { IsPair (teams league.now) team game.opponent }
     requires away { IsPair (teams league.now) game.opponent team }
     ensures value { result ≡ cell_moved (start_round league.now) team game round }
-    ensures most { result ≤ 1 }
+    ensures limit { result ≤ 1 }
 {
     let start = if game.home {
         league.start_round(team, game.opponent)

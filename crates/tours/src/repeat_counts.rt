@@ -16,7 +16,7 @@ use league::SlotSet;
 /// no exception.
 pub fn repeats(schedule: &Schedule) -> u64
     ensures value { result ≡ repeats schedule.now }
-    ensures most { result ≤ max_rounds * max_teams }
+    ensures limit { result ≤ max_rounds * max_teams }
 {
     let firsts = SlotSet::below(schedule.rounds() - 1);
     repeats_from(schedule, firsts)
@@ -27,7 +27,7 @@ pub fn repeats(schedule: &Schedule) -> u64
 fn repeats_after(schedule: &Schedule, round: u8) -> u64
     requires { round + 1 < round_count schedule.now.teams }
     ensures value { result ≡ repeats_after schedule.now round }
-    ensures most { result ≤ max_teams }
+    ensures limit { result ≤ max_teams }
 {
     let mut total = 0;
     for team in 0..schedule.teams() {
@@ -44,7 +44,7 @@ fn repeats_of_higher(schedule: &Schedule, team: u8, round: u8) -> u64
     ensures value { result ≡
         sum_below team (λ low.
         if meets schedule.now team low round && meets schedule.now team low (round + 1) then 1 else 0) }
-    ensures most { result ≤ 1 }
+    ensures limit { result ≤ 1 }
 {
     let opponent = schedule.game_at(team, round).opponent;
     let next = schedule.game_at(team, round + 1).opponent;
@@ -54,7 +54,7 @@ fn repeats_of_higher(schedule: &Schedule, team: u8, round: u8) -> u64
 /// The repeats of all pairs that have one of their two rounds touched.
 pub fn repeats_part(schedule: &Schedule, touched: Touched) -> u64
     ensures value { result ≡ repeats_part schedule.now (has touched.rounds) }
-    ensures most { result ≤ max_rounds * max_teams }
+    ensures limit { result ≤ max_rounds * max_teams }
 {
     let firsts = rounds_next_to(schedule, touched.rounds);
     repeats_from(schedule, firsts)
@@ -65,7 +65,7 @@ fn repeats_from(schedule: &Schedule, firsts: SlotSet) -> u64
     requires season { round_count schedule.now.teams ≤ max_rounds }
     requires below { IsBelow (round_count schedule.now.teams - 1) firsts }
     ensures value { result ≡ sum_where (round_count schedule.now.teams - 1) (has firsts) (repeats_after schedule.now) }
-    ensures most { result ≤ max_rounds * max_teams }
+    ensures limit { result ≤ max_rounds * max_teams }
 {
     let mut total = 0;
     for round in firsts {

@@ -23,8 +23,8 @@ pub(crate) fn repeats_of_rounds(schedule: &Schedule, k: u8, l: u8, among: TeamSe
     requires closed { IsClosed (plays_in schedule.now k l) (has among) }
     ensures balance { repeats (rounds_exchanged schedule.now k l (has among)) + result.before ≡
         repeats schedule.now + result.after }
-    ensures before_most { result.before ≤ 4 * max_teams }
-    ensures after_most { result.after ≤ 4 * max_teams }
+    ensures before_limit { result.before ≤ 4 * max_teams }
+    ensures after_limit { result.after ≤ 4 * max_teams }
 {
     let teams = teams_in(schedule, among);
     if k < l {
@@ -61,8 +61,8 @@ fn repeats_of_team(schedule: &Schedule, k: u8, l: u8, team: u8) -> CountDelta
     requires l { l < round_count schedule.now.teams }
     ensures before { result.before ≡ repeats_around (met schedule.now team) (λ r. r) team k l }
     ensures after { result.after ≡ repeats_around (met schedule.now team) (exchanged (k + 1) (l + 1)) team k l }
-    ensures before_most { result.before ≤ 4 }
-    ensures after_most { result.after ≤ 4 }
+    ensures before_limit { result.before ≤ 4 }
+    ensures after_limit { result.after ≤ 4 }
 {
     let in_k = schedule.game_at(team, k).opponent;
     let in_l = schedule.game_at(team, l).opponent;
@@ -99,8 +99,8 @@ fn repeats_beside(schedule: &Schedule, team: u8, opponent: u8, before: u8, after
     ensures after { result.after ≡
         same_lower team opponent (met schedule.now team after) +
         same_lower team opponent (met schedule.now team (after + 2)) }
-    ensures before_most { result.before ≤ 2 }
-    ensures after_most { result.after ≤ 2 }
+    ensures before_limit { result.before ≤ 2 }
+    ensures after_limit { result.after ≤ 2 }
 {
     if team <= opponent {
         return CountDelta {
@@ -121,7 +121,7 @@ fn times_beside(schedule: &Schedule, team: u8, opponent: u8, round: u8) -> u64
     ensures value { result ≡
         (if opponent == met schedule.now team round then 1 else 0) +
         (if opponent == met schedule.now team (round + 2) then 1 else 0) }
-    ensures most { result ≤ 2 }
+    ensures limit { result ≤ 2 }
 {
     u64::from(opponent == met(schedule, team, round))
         + u64::from(opponent == met(schedule, team, round + 2))
@@ -130,7 +130,7 @@ fn times_beside(schedule: &Schedule, team: u8, opponent: u8, round: u8) -> u64
 /// 1 if the first opponent of a team is lower and the second is the same.
 fn same_lower(team: u8, first: u8, second: u8) -> u64
     ensures value { result ≡ same_lower team first second }
-    ensures most { result ≤ 1 }
+    ensures limit { result ≤ 1 }
 {
     u64::from(first < team && first == second)
 }
@@ -161,8 +161,8 @@ pub(crate) fn repeats_of_teams(schedule: &Schedule, i: u8, j: u8, among: SlotSet
     requires closed { IsClosed (shares_opponent schedule.now i j) (has among) }
     ensures balance { repeats (teams_exchanged schedule.now i j (has among)) + result.before ≡
         repeats schedule.now + result.after }
-    ensures before_most { result.before ≤ 2 * max_rounds }
-    ensures after_most { result.after ≤ 2 * max_rounds }
+    ensures before_limit { result.before ≤ 2 * max_rounds }
+    ensures after_limit { result.after ≤ 2 * max_rounds }
 {
     prove!(4 <= schedule.teams());
     let rounds = schedule.rounds();
@@ -199,8 +199,8 @@ fn repeats_at_edge(schedule: &Schedule, i: u8, j: u8, round: u8) -> CountDelta
     requires next { round + 1 < round_count schedule.now.teams }
     ensures before { result.before ≡ meets_next schedule.now j j round + meets_next schedule.now i i round }
     ensures after { result.after ≡ meets_next schedule.now j i round + meets_next schedule.now i j round }
-    ensures before_most { result.before ≤ 2 }
-    ensures after_most { result.after ≤ 2 }
+    ensures before_limit { result.before ≤ 2 }
+    ensures after_limit { result.after ≤ 2 }
 {
     let of_i = schedule.game_at(i, round).opponent;
     let of_j = schedule.game_at(j, round).opponent;

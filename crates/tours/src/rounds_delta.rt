@@ -33,8 +33,8 @@ pub(crate) fn legs_of_rounds(
     requires closed { IsClosed (plays_in schedule.now k l) (has among) }
     ensures balance { travel league.now (rounds_exchanged schedule.now k l (has among)) + result.before ≡
         travel league.now schedule.now + result.after }
-    ensures before_most { result.before ≤ max_teams * (4 * max_distance) }
-    ensures after_most { result.after ≤ max_teams * (4 * max_distance) }
+    ensures before_limit { result.before ≤ max_teams * (4 * max_distance) }
+    ensures after_limit { result.after ≤ max_teams * (4 * max_distance) }
 {
     let teams = teams_in(schedule, among);
     if k < l {
@@ -79,8 +79,8 @@ fn changed_legs(schedule: &Schedule, league: &League, k: u8, l: u8, team: u8) ->
     requires l { l < round_count schedule.now.teams }
     ensures before { result.before ≡ legs_changed schedule.now (leg league.now schedule.now) k l team }
     ensures after { result.after ≡ legs_changed schedule.now (leg_exchanged league.now schedule.now k l) k l team }
-    ensures before_most { result.before ≤ 4 * max_distance }
-    ensures after_most { result.after ≤ 4 * max_distance }
+    ensures before_limit { result.before ≤ 4 * max_distance }
+    ensures after_limit { result.after ≤ 4 * max_distance }
 {
     if stop(schedule, team, k + 1) == stop(schedule, team, l + 1) {
         return TravelDelta {
@@ -99,8 +99,8 @@ fn legs_of_team(schedule: &Schedule, league: &League, k: u8, l: u8, team: u8) ->
     requires l { l < round_count schedule.now.teams }
     ensures before { result.before ≡ legs_around (leg league.now schedule.now team) k l }
     ensures after { result.after ≡ legs_around (leg_exchanged league.now schedule.now k l team) k l }
-    ensures before_most { result.before ≤ 4 * max_distance }
-    ensures after_most { result.after ≤ 4 * max_distance }
+    ensures before_limit { result.before ≤ 4 * max_distance }
+    ensures after_limit { result.after ≤ 4 * max_distance }
 {
     if l == k + 1 {
         legs_of_neighbours(schedule, league, k, l, team)
@@ -121,8 +121,8 @@ fn legs_of_neighbours(schedule: &Schedule, league: &League, k: u8, l: u8, team: 
     ensures after { result.after ≡
         leg_exchanged league.now schedule.now k l team k + leg_exchanged league.now schedule.now k l team (k + 1) +
         leg_exchanged league.now schedule.now k l team (l + 1) }
-    ensures before_most { result.before ≤ 3 * max_distance }
-    ensures after_most { result.after ≤ 3 * max_distance }
+    ensures before_limit { result.before ≤ 3 * max_distance }
+    ensures after_limit { result.after ≤ 3 * max_distance }
 {
     let from = stop(schedule, team, k);
     let first = stop(schedule, team, k + 1);
@@ -150,8 +150,8 @@ fn legs_of_two(schedule: &Schedule, league: &League, k: u8, l: u8, team: u8) -> 
     ensures after { result.after ≡
         leg_exchanged league.now schedule.now k l team k + leg_exchanged league.now schedule.now k l team (k + 1) +
         (leg_exchanged league.now schedule.now k l team l + leg_exchanged league.now schedule.now k l team (l + 1)) }
-    ensures before_most { result.before ≤ 4 * max_distance }
-    ensures after_most { result.after ≤ 4 * max_distance }
+    ensures before_limit { result.before ≤ 4 * max_distance }
+    ensures after_limit { result.after ≤ 4 * max_distance }
 {
     let before_k = stop(schedule, team, k);
     let at_k = stop(schedule, team, k + 1);

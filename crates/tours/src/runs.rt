@@ -20,7 +20,7 @@ use league::{League, SlotSet, TeamSet};
 pub fn runs_over(schedule: &Schedule, league: &League) -> u64
     requires same { teams league.now ≡ schedule.now.teams }
     ensures value { result ≡ runs_over schedule.now league.now.at_most }
-    ensures most { result ≤ max_teams * max_rounds }
+    ensures limit { result ≤ max_teams * max_rounds }
 {
     let at_most = league.at_most();
     let all = TeamSet::below(schedule.teams());
@@ -32,16 +32,16 @@ pub fn runs_over(schedule: &Schedule, league: &League) -> u64
 pub fn runs_part(schedule: &Schedule, league: &League, touched: Touched) -> u64
     requires same { teams league.now ≡ schedule.now.teams }
     ensures value { result ≡ runs_part schedule.now league.now.at_most (has touched.teams) (has touched.rounds) }
-    ensures most { result ≤ max_teams * max_rounds }
+    ensures limit { result ≤ max_teams * max_rounds }
 {
     runs_near(schedule, league.at_most(), touched.teams, touched.rounds)
 }
 
 fn runs_near(schedule: &Schedule, at_most: u8, set: TeamSet, rounds: SlotSet) -> u64
     requires least { 1 ≤ at_most }
-    requires most { at_most ≤ max_rounds }
+    requires limit { at_most ≤ max_rounds }
     ensures value { result ≡ runs_part schedule.now at_most (has set) (has rounds) }
-    ensures most { result ≤ max_teams * max_rounds }
+    ensures limit { result ≤ max_teams * max_rounds }
 {
     let among = teams_in(schedule, set);
     let starts = rounds.starts_meeting(at_most + 1);
@@ -52,13 +52,13 @@ fn runs_near(schedule: &Schedule, at_most: u8, set: TeamSet, rounds: SlotSet) ->
 /// throughout or away throughout.
 fn runs_from(schedule: &Schedule, at_most: u8, among: TeamSet, starts: SlotSet) -> u64
     requires least { 1 ≤ at_most }
-    requires most { at_most ≤ max_rounds }
+    requires limit { at_most ≤ max_rounds }
     requires round_robin { IsDoubleRoundRobin schedule.now }
     requires below { IsBelow schedule.now.teams among }
     ensures value { result ≡ sum_where schedule.now.teams (has among) (λ t.
         count_where (windows schedule.now (at_most + 1)) (λ first. has starts first &&
         is_run schedule.now t first (at_most + 1))) }
-    ensures most { result ≤ max_teams * max_rounds }
+    ensures limit { result ≤ max_teams * max_rounds }
 {
     let mut total = 0;
     for team in among {
@@ -69,12 +69,12 @@ fn runs_from(schedule: &Schedule, at_most: u8, among: TeamSet, starts: SlotSet) 
 
 fn runs_of_team(schedule: &Schedule, at_most: u8, starts: SlotSet, team: u8) -> u64
     requires least { 1 ≤ at_most }
-    requires most { at_most ≤ max_rounds }
+    requires limit { at_most ≤ max_rounds }
     requires team { team < schedule.now.teams }
     ensures value { result ≡
         count_where (windows schedule.now (at_most + 1)) (λ first. has starts first &&
         is_run schedule.now team first (at_most + 1)) }
-    ensures most { result ≤ max_rounds }
+    ensures limit { result ≤ max_rounds }
 {
     prove!(schedule.rounds() <= MAX_ROUNDS);
     let runs = windows_spent(schedule, at_most + 1, team);
@@ -90,10 +90,10 @@ fn runs_of_team(schedule: &Schedule, at_most: u8, starts: SlotSet, team: u8) -> 
 /// How many runs a team has that is at home in these rounds of a season.
 pub(crate) fn runs_in(home: SlotSet, rounds: u8, at_most: u8) -> u64
     requires least { 1 ≤ at_most }
-    requires most { at_most ≤ max_rounds }
+    requires limit { at_most ≤ max_rounds }
     requires season { rounds ≤ max_rounds }
     ensures value { (g : Games) (t : ℕ) → round_count g.teams ≡ rounds → HasHomes g t home → result ≡ runs_of g at_most t }
-    ensures most { result ≤ max_rounds }
+    ensures limit { result ≤ max_rounds }
 {
     let runs = run_starts(home, rounds, at_most + 1);
     // most have none, and a test takes fewer instructions than a count
@@ -107,7 +107,7 @@ pub(crate) fn runs_in(home: SlotSet, rounds: u8, at_most: u8) -> u64
 /// The first rounds of the windows of so many consecutive rounds that a team spends at home throughout or away throughout.
 pub fn windows_spent(schedule: &Schedule, length: u8, team: u8) -> SlotSet
     requires least { 2 ≤ length }
-    requires most { length ≤ max_rounds + 1 }
+    requires limit { length ≤ max_rounds + 1 }
     requires team { team < schedule.now.teams }
     ensures { (first : ℕ) → has result first ≡
         (nat_lt first (windows schedule.now length) && is_run schedule.now team first length) }
@@ -119,7 +119,7 @@ pub fn windows_spent(schedule: &Schedule, length: u8, team: u8) -> SlotSet
 /// home in these rounds of a season.
 fn run_starts(home: SlotSet, rounds: u8, length: u8) -> SlotSet
     requires least { 2 ≤ length }
-    requires most { length ≤ max_rounds + 1 }
+    requires limit { length ≤ max_rounds + 1 }
     requires season { rounds ≤ max_rounds }
     ensures members { (g : Games) (t : ℕ) → round_count g.teams ≡ rounds → HasHomes g t home → HasRuns g t length result }
 {

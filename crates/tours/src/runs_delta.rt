@@ -33,8 +33,8 @@ pub(crate) fn runs_of_rounds(
     ensures balance { runs_over (rounds_exchanged schedule.now k l (has among)) league.now.at_most + result.before ≡
         runs_over schedule.now league.now.at_most + result.after }
     ensures within { result.before ≤ runs_over schedule.now league.now.at_most }
-    ensures before_most { result.before ≤ max_teams * max_rounds }
-    ensures after_most { result.after ≤ max_teams * max_rounds }
+    ensures before_limit { result.before ≤ max_teams * max_rounds }
+    ensures after_limit { result.after ≤ max_teams * max_rounds }
 {
     let teams = teams_in(schedule, among);
     let at_most = league.at_most();
@@ -52,7 +52,7 @@ pub(crate) fn runs_of_rounds(
 fn turned_runs(schedule: &Schedule, at_most: u8, k: u8, l: u8, team: u8) -> CountDelta
     requires round_robin { IsDoubleRoundRobin schedule.now }
     requires least { 1 ≤ at_most }
-    requires most { at_most ≤ max_rounds }
+    requires limit { at_most ≤ max_rounds }
     requires k { k < round_count schedule.now.teams }
     requires l { l < round_count schedule.now.teams }
     requires distinct { k ≢ l }
@@ -60,8 +60,8 @@ fn turned_runs(schedule: &Schedule, at_most: u8, k: u8, l: u8, team: u8) -> Coun
     ensures before { result.before ≡ (if turns schedule.now k l team then runs_of schedule.now at_most team else 0) }
     ensures after { result.after ≡ (if turns schedule.now k l team
         then runs_of (rounds_exchanged schedule.now k l (λ _. true)) at_most team else 0) }
-    ensures before_most { result.before ≤ max_rounds }
-    ensures after_most { result.after ≤ max_rounds }
+    ensures before_limit { result.before ≤ max_rounds }
+    ensures after_limit { result.after ≤ max_rounds }
 {
     let rounds = schedule.rounds();
     let home = schedule.home_rounds(team);
@@ -98,8 +98,8 @@ pub(crate) fn runs_of_teams(
     ensures balance { runs_over (teams_exchanged schedule.now i j (has among)) league.now.at_most + result.before ≡
         runs_over schedule.now league.now.at_most + result.after }
     ensures within { result.before ≤ runs_over schedule.now league.now.at_most }
-    ensures before_most { result.before ≤ 2 * max_rounds }
-    ensures after_most { result.after ≤ 2 * max_rounds }
+    ensures before_limit { result.before ≤ 2 * max_rounds }
+    ensures after_limit { result.after ≤ 2 * max_rounds }
 {
     prove_eq!(league.teams(), schedule.teams());
     let at_most = league.at_most();

@@ -37,8 +37,8 @@ pub(crate) fn legs_of_teams(
     requires closed { IsClosed (shares_opponent schedule.now i j) (has among) }
     ensures balance { travel league.now (teams_exchanged schedule.now i j (has among)) + result.before ≡
         travel league.now schedule.now + result.after }
-    ensures before_most { result.before ≤ (8 * max_rounds + 2) * max_distance }
-    ensures after_most { result.after ≤ (8 * max_rounds + 2) * max_distance }
+    ensures before_limit { result.before ≤ (8 * max_rounds + 2) * max_distance }
+    ensures after_limit { result.after ≤ (8 * max_rounds + 2) * max_distance }
 {
     prove_eq!(league.teams(), schedule.teams());
     let exchange = TeamExchange {

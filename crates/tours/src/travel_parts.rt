@@ -19,7 +19,7 @@ use league::{League, SlotSet, TeamSet};
 pub fn travel_part(schedule: &Schedule, league: &League, touched: Touched) -> u64
     requires same { teams league.now ≡ schedule.now.teams }
     ensures value { result ≡ travel_part league.now schedule.now (has touched.teams) (has touched.rounds) }
-    ensures most { result ≤ max_teams * ((max_rounds + 1) * max_distance) }
+    ensures limit { result ≤ max_teams * ((max_rounds + 1) * max_distance) }
 {
     prove_eq!(league.teams(), schedule.teams());
     let among = teams_in(schedule, touched.teams);
@@ -35,7 +35,7 @@ fn legs_with(schedule: &Schedule, league: &League, among: TeamSet, indices: Slot
     requires below { IsBelow (round_count schedule.now.teams) indices }
     ensures value { result ≡ sum_where (round_count schedule.now.teams) (has indices) (λ r.
         sum_where schedule.now.teams (has among) (λ t. leg league.now schedule.now t r)) }
-    ensures most { result ≤ max_teams * max_distance * round_count schedule.now.teams }
+    ensures limit { result ≤ max_teams * max_distance * round_count schedule.now.teams }
 {
     let mut total = 0;
     for index in indices {
@@ -52,7 +52,7 @@ fn home_legs(schedule: &Schedule, league: &League, among: TeamSet, rounds: SlotS
     ensures value { result ≡ (if has rounds (round_count schedule.now.teams - 1)
         then sum_where schedule.now.teams (has among) (λ t.
         leg league.now schedule.now t (round_count schedule.now.teams)) else 0) }
-    ensures most { result ≤ max_teams * max_distance }
+    ensures limit { result ≤ max_teams * max_distance }
 {
     if rounds.has(schedule.rounds() - 1) {
         legs_of(schedule, league, among, schedule.rounds())
@@ -68,7 +68,7 @@ fn legs_of(schedule: &Schedule, league: &League, among: TeamSet, index: u8) -> u
     requires round_robin { IsDoubleRoundRobin schedule.now }
     requires below { IsBelow schedule.now.teams among }
     ensures value { result ≡ sum_where schedule.now.teams (has among) (λ t. leg league.now schedule.now t index) }
-    ensures most { result ≤ max_distance * schedule.now.teams }
+    ensures limit { result ≤ max_distance * schedule.now.teams }
 {
     let mut total = 0;
     for team in among {

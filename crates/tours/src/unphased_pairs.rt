@@ -13,7 +13,7 @@ use league::TeamSet;
 /// How many pairs of teams play both their games in one half of the season.
 pub fn unphased(schedule: &Schedule) -> u64
     ensures value { result ≡ unphased schedule.now }
-    ensures most { result ≤ max_teams * max_teams }
+    ensures limit { result ≤ max_teams * max_teams }
 {
     let all = TeamSet::below(schedule.teams());
     unphased_with(schedule, all)
@@ -22,7 +22,7 @@ pub fn unphased(schedule: &Schedule) -> u64
 /// The pairs with a touched team, of these.
 pub fn unphased_part(schedule: &Schedule, touched: Touched) -> u64
     ensures value { result ≡ unphased_part schedule.now (has touched.teams) }
-    ensures most { result ≤ max_teams * max_teams }
+    ensures limit { result ≤ max_teams * max_teams }
 {
     unphased_with(schedule, touched.teams)
 }
@@ -31,7 +31,7 @@ pub fn unphased_part(schedule: &Schedule, touched: Touched) -> u64
 #[tactic(auto, using(league::proofs::ForCallers::sums), unfolding(crate::specs::Phased::unphased_part))]
 fn unphased_with(schedule: &Schedule, teams: TeamSet) -> u64
     ensures value { result ≡ unphased_part schedule.now (has teams) }
-    ensures most { result ≤ max_teams * max_teams }
+    ensures limit { result ≤ max_teams * max_teams }
 {
     let mut total = 0;
     for team in 0..schedule.teams() {
@@ -61,7 +61,7 @@ fn unphased_of(schedule: &Schedule, lower: TeamSet, team: u8) -> u64
     requires team { team < schedule.now.teams }
     requires lower { IsBelow team lower }
     ensures value { result ≡ sum_where team (has lower) (λ low. if is_unphased schedule.now low team then 1 else 0) }
-    ensures most { result ≤ max_teams }
+    ensures limit { result ≤ max_teams }
 {
     let mut total = 0;
     for low in lower {

@@ -14,7 +14,7 @@ use league::League;
 pub fn travel(schedule: &Schedule, league: &League) -> u64
     requires same { teams league.now ≡ schedule.now.teams }
     ensures value { result ≡ travel league.now schedule.now }
-    ensures most { result ≤ max_teams * ((max_rounds + 1) * max_distance) }
+    ensures limit { result ≤ max_teams * ((max_rounds + 1) * max_distance) }
 {
     let mut total = 0;
     for team in 0..schedule.teams() {
@@ -30,7 +30,7 @@ pub fn travel_of(schedule: &Schedule, league: &League, team: u8) -> u64
     requires same { teams league.now ≡ schedule.now.teams }
     requires team { team < schedule.now.teams }
     ensures value { result ≡ travel_of league.now schedule.now team }
-    ensures most { result ≤ (max_rounds + 1) * max_distance }
+    ensures limit { result ≤ (max_rounds + 1) * max_distance }
 {
     let mut total = 0;
     for index in 0..schedule.rounds() + 1 {
@@ -46,7 +46,7 @@ pub(crate) fn leg(schedule: &Schedule, league: &League, team: u8, index: u8) -> 
     requires team { team < schedule.now.teams }
     requires index { index ≤ round_count schedule.now.teams }
     ensures value { result ≡ leg league.now schedule.now team index }
-    ensures most { result ≤ max_distance }
+    ensures limit { result ≤ max_distance }
 {
     let from = stop(schedule, team, index);
     let to = stop(schedule, team, index + 1);
@@ -59,7 +59,7 @@ pub(crate) fn distance(league: &League, from: u8, to: u8) -> u64
     requires to { to < teams league.now }
     ensures value { result ≡ distance league.now from to }
     ensures back { result ≡ distance league.now to from }
-    ensures most { result ≤ max_distance }
+    ensures limit { result ≤ max_distance }
 {
     prove!(from < league.teams());
     u64::from(league.distance(from, to))

@@ -14,7 +14,7 @@ pub(super) const TEAMS: &str = r#"{"format":2,"teams":["A","B","C","D"],"distanc
 
 pub(super) const CIRCLE: &str = "[[0,1,2,1],[1,0,1,2],[2,1,0,1],[1,2,1,0]]";
 
-/// What stands behind the teams, and the line.
+/// A text behind the teams, and the line.
 type Case = (&'static str, &'static str);
 
 const DISTANCES: &[Case] = &[
@@ -136,7 +136,7 @@ const RULES: &[Case] = &[
     ),
 ];
 
-/// What stands for the four teams, and the line.
+/// A text for the four teams, and the line.
 const NAMES: &[Case] = &[
     (
         r#"["A","B","東京東京東京東京東京東京東京","D"]"#,
@@ -182,7 +182,7 @@ const TEXTS: &[Case] = &[
     ),
 ];
 
-/// What stands behind the distances of four teams, and the line.
+/// A text behind the distances of four teams, and the line.
 const MEMBERS: &[Case] = &[
     (
         r#""at_most":0"#,

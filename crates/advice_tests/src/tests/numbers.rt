@@ -25,7 +25,7 @@ const NUMBERS: &[(&str, &str)] = &[
     ("1.7976931348623157e308", "1.7976931348623157e308"),
 ];
 
-/// What stands before a number and behind it in a text, and what does so in the line.
+/// The texts before a number and behind it, and those in the line.
 type Case = ((&'static str, &'static str), (&'static str, &'static str));
 
 const DISTANCES: &[Case] = &[

@@ -69,7 +69,7 @@ pub(crate) fn gone_on<R: Wait, G: Gate>(
     Ok(anneal(run_context, conditions, chain, plan)?)
 }
 
-/// What a leg comes to, through no gate.
+/// The outcome of a leg, through no gate.
 pub(crate) fn annealed<R: Wait>(rt: &R, alloc: Global, asked: Asked) -> Result<Annealed, Fail>
     requires { IsLeg asked.leg }
 {

@@ -1,4 +1,4 @@
-//! What is reported to a gate of a leg.
+//! The reports of a leg to a gate.
 
 use crate::tests::chains::{MILD, chain_of, gone_on};
 use crate::tests::checks::check_same;

@@ -1,4 +1,4 @@
-//! What boards answer and show, in few words.
+//! Answers and looks of boards, in few words.
 
 use costs::Cost;
 use fixture_board::{Best, Board, Reply, Seen, Why};
@@ -19,7 +19,7 @@ pub(crate) fn no(at: u64, why: Why) -> Reply {
     Reply::No { at, why }
 }
 
-/// What is answered.
+/// The answer.
 #[derive(Clone, Copy)]
 pub(crate) enum Answer {
     /// The version, the travel and the hard breaches, with no soft cost.

@@ -1,4 +1,4 @@
-//! What callers may ask that is out of range, of another version or past the room: each is refused, first reason first,
+//! Questions of callers that are out of range, of another version or past the room: each is refused, first reason first,
 //! and leaves the board as it was. The answers were worked out by hand.
 
 use crate::tests::answers::Answer::{self, Done, No};

@@ -20,12 +20,12 @@ pub(crate) fn check_holds(rt: &impl Abort, about: &impl Debug, holds: bool) {
     assert!(rt; holds, "{about:?}");
 }
 
-/// What is asked by a call of its own is answered so.
+/// Checks the answer to a question by a call of its own.
 pub(crate) fn check_ask(rt: &impl Abort, board: &mut Board, caller: u32, ask: Ask, reply: Reply) {
     check_same(rt, &(ask, ask_board(board, caller, ask)), &(ask, reply));
 }
 
-/// What is asked by the call for all, as caller 0, is answered so.
+/// Checks the answer to a question by the call for all, as caller 0.
 pub(crate) fn check_answer(rt: &impl Abort, board: &mut Board, ask: Ask, reply: Reply) {
     check_same(rt, &(ask, board.answer(0, ask)), &(ask, reply));
 }

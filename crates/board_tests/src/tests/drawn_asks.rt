@@ -1,4 +1,4 @@
-//! What is asked of a board, drawn as `scripts/oracle starts` does.
+//! Questions to a board, drawn as `scripts/oracle starts` does.
 
 use crate::tests::drawn_numbers::{among, drawn, drawn_move};
 use crate::tests::questions::{pin_from_0, propose, unpin_from_0};

@@ -56,7 +56,7 @@ pub(crate) fn league_with(alloc: Global, teams: u8, rules: &str) -> Result<Leagu
     league_on(alloc, teams, rules, "forbidden")
 }
 
-/// The same, with what repeats are.
+/// Checks it, with what repeats are.
 fn league_on(alloc: Global, teams: u8, rules: &str, repeats: &str) -> Result<League, Fail> {
     let mut text = String::from_str(alloc, "{\"format\":3,\"at_most\":2,")?;
     push_names(alloc, &mut text, teams)?;

@@ -140,7 +140,7 @@ pub(crate) fn best_now(board: &Board, before: Option<Best>) -> Option<Best> {
     before
 }
 
-/// What is known of a board beside it.
+/// The record of a board, kept beside it.
 #[derive(Drop)]
 struct Known {
     /// The league without a price.
@@ -187,7 +187,7 @@ fn unpriced(alloc: Global, league: &League) -> Result<League, Fail> {
     Ok(league)
 }
 
-/// What is known of a new board.
+/// The record of a new board.
 fn known_of(alloc: Global, board: &Board) -> Result<Known, Fail> {
     let copy = board.schedule().duplicate(alloc)?;
     let unpriced = unpriced(alloc, board.league())?;

@@ -1,4 +1,4 @@
-//! What a board is asked, in few words. Teams and rounds count from 1, if nothing else is said.
+//! Questions to a board, in few words. Teams and rounds count from 1, if nothing else is said.
 
 ghost use Rattle.std.specs.Prelude.{◌≡◌};
 
@@ -69,7 +69,7 @@ pub(crate) fn propose(version: u64, mv: Move, claim: Option<u64>, slack: u64) ->
     })
 }
 
-/// What is asked at a version. Teams and rounds count from 0.
+/// A question at a version. Teams and rounds count from 0.
 #[derive(Clone, Copy)]
 pub(crate) enum Asked {
     /// The version, the move, the claim and the slack.
@@ -114,7 +114,7 @@ pub(crate) fn shift(board: &mut Board, mv: Move) -> Reply {
     board.propose(0, at_any_cost(version, mv))
 }
 
-/// What is told of the same.
+/// The reply that the move would get.
 pub(crate) fn would_shift(board: &mut Board, mv: Move) -> Reply {
     let version = board.version();
     board.would_answer(at_any_cost(version, mv))

@@ -1,4 +1,4 @@
-//! What two callers may ask that is out of range, of another version or past the room, and what becomes of a board whose
+//! Questions of two callers that are out of range, of another version or past the room, and what becomes of a board whose
 //! seats were dropped. The answers were worked out by hand.
 
 use crate::tests::answers::Answer::{Done, No};

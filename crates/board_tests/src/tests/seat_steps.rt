@@ -1,4 +1,4 @@
-//! What two seats of a shared board do, one after the other, in tables.
+//! Steps of two seats of a shared board, one after the other, in tables.
 
 ghost use Rattle.std.specs.Prelude.{◌≡◌};
 
@@ -31,7 +31,7 @@ pub(crate) enum Who {
     Second,
 }
 
-/// What a seat asks or shows.
+/// A question to a seat, or a look at it.
 #[derive(Clone, Copy)]
 pub(crate) enum SeatStep {
     Ask(Asked, Answer),

@@ -16,7 +16,7 @@ use std::test::Fail;
 /// and its version; and the sums of travel, hard and soft after each change.
 type Row = [u64; 21];
 
-/// What `scripts/oracle starts 12 1` prints.
+/// The output of `scripts/oracle starts 12 1`.
 const ROWS: &[Row] = &[
     [
         4, 1000000, 3, 36, 39, 11, 145, 13, 16, 21, 6, 11, 2, 2333, 6, 5000023, 0, 0, 680574, 1732,

@@ -1,4 +1,4 @@
-//! What is done with a board and looked for on it, one after the other, in tables. A table costs a proof nothing.
+//! Steps with a board and looks at it, one after the other, in tables. A table costs a proof nothing.
 
 use crate::tests::answers::{Answer, best};
 use crate::tests::boards::{board, board_with};
@@ -23,7 +23,7 @@ use std::test::Fail;
 pub(crate) enum Act {
     /// By a call of its own, at a version.
     Ask(Asked, Answer),
-    /// The same, as this caller.
+    /// A question as this caller.
     AskBy(u32, Asked, Answer),
     /// By the call for all, at a version.
     Answer(Asked, Answer),
@@ -42,7 +42,7 @@ pub(crate) enum Act {
     RewindToBest,
 }
 
-/// What a board shows. Teams and rounds count from 1.
+/// A look at a board. Teams and rounds count from 1.
 #[derive(Clone, Copy)]
 pub(crate) enum Sight {
     Version(u64),

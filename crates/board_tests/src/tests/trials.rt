@@ -40,7 +40,7 @@ fn score(cost: Cost, weight: u32) -> u64 {
         .saturating_add(breaches)
 }
 
-/// What the whole schedule costs after a trial, if the trial is to make its move. The copy gets the move if it can be made.
+/// The cost of the whole schedule after a trial, if the trial is to make its move. The copy gets the move if it can be made.
 fn wanted(board: &Board, copy: &mut Schedule, trial: Trial) -> Option<Cost> {
     let league = board.league();
     copy.copy_from(board.schedule());
@@ -219,7 +219,7 @@ fn drawn_board(rt: &impl Abort, alloc: Global, state: &mut u64, teams: u8) -> Re
     Ok(board)
 }
 
-/// The same done on two boards that show the same leads to the same.
+/// Two boards that show the same, and on which the same is done, show the same after it.
 fn check_alike(
     rt: &impl Abort,
     alloc: Global,

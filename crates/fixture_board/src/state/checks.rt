@@ -17,7 +17,7 @@ use moves::{Move, MoveFault, check};
 /// A score, and why a proposal is refused whose score after its move is above it.
 #[derive(Clone, Copy)]
 pub(crate) struct Limit {
-    pub(crate) most: u64,
+    pub(crate) limit: u64,
     pub(crate) above: Why,
 }
 
@@ -80,17 +80,17 @@ impl State {
     /// Up to which score after its move a proposal is judged by that score. Above a claim for the board's version the claim is
     /// wrong, whatever the slack. If there is no such claim, a score above the one before and the slack is worse.
     pub(crate) fn limit_of(&self, proposal: Proposal, before: u64) -> Limit
-        ensures above { (after : ℕ) → result.most < after → after < 2 ^ 64 →
+        ensures above { (after : ℕ) → result.limit < after → after < 2 ^ 64 →
             first_of (score_rows (length self.now.history.items) proposal before after) ≡ Some result.above }
-        ensures most { first_of (score_rows (length self.now.history.items) proposal before result.most) ≢ Some result.above }
+        ensures limit { first_of (score_rows (length self.now.history.items) proposal before result.limit) ≢ Some result.above }
     {
         match proposal.claim {
             Some(claim) if self.version() == proposal.version => Limit {
-                most: claim,
+                limit: claim,
                 above: Why::WrongClaim,
             },
             _ => Limit {
-                most: before.saturating_add(proposal.slack),
+                limit: before.saturating_add(proposal.slack),
                 above: Why::Worse,
             },
         }

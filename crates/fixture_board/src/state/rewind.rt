@@ -55,7 +55,7 @@ fn take_effect(changes: &mut Vec<Change>, change: Change)
     requires { vec_len changes.old < vec_capacity changes.old }
     ensures items { changes.new.items ≡ effect changes.old.items change }
     ensures capacity { vec_capacity changes.new ≡ vec_capacity changes.old }
-    ensures most { vec_len changes.new ≤ vec_len changes.old + 1 }
+    ensures limit { vec_len changes.new ≤ vec_len changes.old + 1 }
 {
     match change {
         Change::Undo => {

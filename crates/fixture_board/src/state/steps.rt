@@ -54,12 +54,12 @@ impl State {
             return Err(Why::Pinned);
         }
         let before = self.cost.score(league);
-        let Limit { most, above } = self.limit_of(proposal, before);
+        let Limit { limit, above } = self.limit_of(proposal, before);
         let attempt = Attempt {
             exchange: &exchange,
             known: self.cost,
             weight: league.hard_weight(),
-            most,
+            limit,
         };
         let Some(cost) = make_within(&mut self.schedule, league, &mut self.evaluator, &attempt)
         else {
@@ -128,7 +128,7 @@ impl State {
             exchange: &exchange,
             known: self.cost,
             weight,
-            most: before.saturating_add(rise),
+            limit: before.saturating_add(rise),
         };
         let cost = make_within(&mut self.schedule, league, &mut self.evaluator, &attempt)?;
         self.cost = cost;

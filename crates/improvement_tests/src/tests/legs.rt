@@ -1,4 +1,4 @@
-//! What legs come to, and what is written of them.
+//! The results of legs, and what is written of them.
 
 ghost use Rattle.std.specs.Prelude.{◌≡◌, []};
 
@@ -66,7 +66,7 @@ fn workers_change_nothing(rt: HostRuntime) {
     check_alone(&rt, rt.alloc(), (8, 200_000));
 }
 
-/// What the lines of a text say all together.
+/// The sum of the lines of a text.
 #[derive(Clone, Copy, Debug, PartialEq, Eq)]
 struct Reported {
     legs: u64,
@@ -115,7 +115,7 @@ pub(crate) fn number_behind(line: &[u8], word: &[u8]) -> Option<u64> {
     None
 }
 
-/// What stands in a text up to its history, and the lines behind the head of that.
+/// The lines of a text up to its history, and those behind the head of that.
 fn read_legs(text: &[u8]) -> Option<(Reported, &[u8])> {
     let mut reported = Reported {
         legs: 0,

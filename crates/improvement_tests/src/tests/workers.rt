@@ -1,4 +1,4 @@
-//! What the workers and the seed of an improvement are for.
+//! The workers and the seed of an improvement, and what they are for.
 
 use super::{asked, check_same, circle, improvement_of};
 use fixture_board::Reply;

@@ -9,7 +9,7 @@ pub(crate) fn check_same<T: PartialEq + Debug>(rt: &impl Abort, found: &T, wante
     assert_eq!(rt; found, wanted);
 }
 
-/// What is said of something holds.
+/// Checks that what is said of something holds.
 pub(crate) fn check_holds(rt: &impl Abort, about: &impl Debug, holds: bool) {
     assert!(rt; holds, "{about:?}");
 }

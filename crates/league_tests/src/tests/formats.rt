@@ -1,4 +1,4 @@
-//! What the second format of a league's text has besides.
+//! The members that the second format of a league's text has besides.
 
 use crate::tests::checks::check_same;
 use crate::tests::league_texts::{check_circle, circle_with};

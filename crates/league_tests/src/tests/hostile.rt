@@ -88,7 +88,7 @@ const THREES: &[&str] = &[
     "18446744073709551619",
 ];
 
-/// Those of them past 32 bits.
+/// The numbers past 32 bits, of these.
 const FAR_THREES: &[&str] = &["4294967299", "18446744073709551615", "18446744073709551619"];
 
 /// Numbers that are the right one in 8, 32 or 64 bits, and the greatest of 64 bits.

@@ -218,7 +218,7 @@ fn games_of(body: &RuleBody) -> Option<Games> {
     Some((games.len(), Some(ends)))
 }
 
-/// What a rule of games says: its games, how many of them are wanted, and its slots.
+/// The members of a rule of games: its games, how many of them are wanted, and its slots.
 #[derive(Clone, Copy)]
 pub(crate) struct GameRule {
     pub(crate) games: Games,

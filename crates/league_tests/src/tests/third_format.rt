@@ -1,4 +1,4 @@
-//! What the third format of a league's text has besides.
+//! The members that the third format of a league's text has besides.
 
 use crate::tests::checks::check_same;
 use crate::tests::league_texts::{

@@ -7,7 +7,7 @@ use command_line::{FileWords, Request, args};
 use std::alloc::{AllocError, Global};
 use std::test::Fail;
 
-/// What the words ask for, or the kind of the error that they are answered with.
+/// The request of the words, or the kind of the error that they are answered with.
 fn asked(alloc: Global, given: &[&str]) -> Result<Result<Request, ErrorKind>, AllocError> {
     let words = words(alloc, given)?;
     Ok(args(alloc, &words).map_err(|error| error.kind()))

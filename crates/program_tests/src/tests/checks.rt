@@ -19,7 +19,7 @@ pub(crate) fn check_same_of<T: PartialEq + Debug>(
     assert_eq!(rt; found, wanted, "{about:?}");
 }
 
-/// What is said of something holds.
+/// Checks that what is said of something holds.
 pub(crate) fn check_holds(rt: &impl Abort, about: &impl Debug, holds: bool) {
     assert!(rt; holds, "{about:?}");
 }

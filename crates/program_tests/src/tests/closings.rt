@@ -1,6 +1,6 @@
 //! The end of a play text or of a search text: the history, the sheet and the best version.
 
-/// What follows `history ` up to the line `end`, and what stands after that line.
+/// The text after `history ` up to the line `end`, and the text after that line.
 pub(crate) fn closing(text: &[u8]) -> Option<(&str, &str)> {
     let text = str::from_utf8(text).ok()?;
     let (_, closing) = text.split_once("history ")?;

@@ -45,7 +45,7 @@ fn run_from<T: Threads + Wait + Sync, R: Source, W: Sink>(
     Ok(None)
 }
 
-/// What a command answered, the calls of its source and of its sink, and what went out.
+/// The answer of a command, the calls of its source and of its sink, and what went out.
 #[derive(Drop)]
 struct Ended {
     answer: Answer,
@@ -286,7 +286,7 @@ fn each_command_leaves_a_front_where_a_write_takes_nothing(rt: HostRuntime) -> R
     Ok(())
 }
 
-/// What a command takes for no league, and why.
+/// Inputs that a command takes for no league, and why.
 const REFUSED_LEAGUES: [(&[u8], ProgramFault); 2] = [
     (b"", ProgramFault::League(LeagueFault::NotJson)),
     (
@@ -295,7 +295,7 @@ const REFUSED_LEAGUES: [(&[u8], ProgramFault); 2] = [
     ),
 ];
 
-/// What is taken for no table of distances, and why.
+/// Inputs that are taken for no table of distances, and why.
 const REFUSED_TABLES: [(&[u8], ProgramFault); 2] = [
     (b"", ProgramFault::Distances(DistanceFault::NoRow)),
     (

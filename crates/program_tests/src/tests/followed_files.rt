@@ -125,10 +125,10 @@ const ALL: u64 = TRIED + 2 * PUT;
 
 const MESSAGE: &str = "ttp: best.txt: cannot be written\n";
 
-/// What was answered, what stands in the file and what was said.
+/// The answer, what stands in the file and what was said.
 type Found<'a> = (Option<bool>, Option<&'a str>, Option<&'a str>);
 
-/// What is found where the machine stops after so many calls.
+/// The file where the machine stops after so many calls.
 fn after_a_stop(good: u64) -> Found<'static> {
     if good < TRIED {
         (None, None, None)
@@ -141,7 +141,7 @@ fn after_a_stop(good: u64) -> Found<'static> {
     }
 }
 
-/// What is found where one call fails after so many.
+/// The file where one call fails after so many.
 fn after_a_failure(good: u64) -> Found<'static> {
     if good == 0 || ALL <= good {
         // a file that can't be looked up may still be written
@@ -155,7 +155,7 @@ fn after_a_failure(good: u64) -> Found<'static> {
     }
 }
 
-/// What is found on a disk on which a call fails after so many, and if it stops all after that one.
+/// The file on a disk on which a call fails after so many, and if it stops all after that one.
 fn after(good: u64, stops: bool) -> Found<'static> {
     if stops {
         after_a_stop(good)
@@ -277,7 +277,7 @@ fn refusal_on<'a, R: Files + Clock + Eprint>(
     }
 }
 
-/// The same on a disk on which nothing fails.
+/// The file on a disk on which nothing fails.
 fn refusal(alloc: Global) -> Result<Option<ErrorKind>, AllocError> {
     let disk = Disk::new(alloc, u64::MAX, false)?;
     Ok(refusal_on(&disk, alloc, &words(alloc, true)?))

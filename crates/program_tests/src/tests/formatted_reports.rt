@@ -80,7 +80,7 @@ const RECORDS: [[&str; 5]; 12] = [
     ["6", "4", FOURTH, "2", SECOND],
 ];
 
-/// What is written of that league and its start, which is feasible.
+/// The report of that league and its start, which is feasible.
 pub(crate) fn marked<T: Threads + Wait + Sync + Abort>(
     rt: &T,
     alloc: Global,

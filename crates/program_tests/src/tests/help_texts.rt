@@ -1,4 +1,4 @@
-//! What the help, the version and mistakes say.
+//! The texts of the help, the version and mistakes.
 
 use crate::tests::arguments::words;
 use crate::tests::checks::check_same_of;
@@ -17,7 +17,7 @@ pub(crate) fn told(alloc: Global, given: &[&str]) -> Result<String, Fail> {
     }
 }
 
-/// What is said of the options of a search and of an improvement.
+/// The help for the options of a search and of an improvement.
 const WORKERS_AND_SEED: &[&str] = &[
     "--workers <W>",
     "How many workers search at once, 1 to 16",

@@ -109,7 +109,7 @@ fn by(workers: u32) -> ImprovePlan
     }
 }
 
-/// What an improvement by so many workers answers, and how often it wrote.
+/// The answer of an improvement by so many workers, and how often it wrote.
 fn ended<T: Threads + Wait + Sync>(
     rt: &T,
     alloc: Global,

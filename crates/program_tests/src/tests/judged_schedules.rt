@@ -24,7 +24,7 @@ pub(crate) const REPEATING: &str = "league 4 teams 6 rounds\n\
     round 1: 2-4 3-1\nround 2: 2-1 4-3\nround 3: 1-4 2-3\n\
     round 4: 3-2 4-1\nround 5: 1-2 3-4\nround 6: 1-3 4-2\n";
 
-/// What that costs, but for its first and last line.
+/// The cost of that, but for its first and last line.
 pub(crate) const PARTS_OF_REPEATING: &str = "tour 1 travel 6\n\
     tour 2 travel 6\n\
     tour 3 travel 8\n\

@@ -35,7 +35,7 @@ const SEMICOLONS: CsvForm = CsvForm {
     has_mark: false,
 };
 
-/// The same with semicolons.
+/// The table with semicolons.
 const TABLE_OF_SEMICOLONS: &str = "round;home;home name;away;away name;round text\n\
     1;1;T1;4;T4;7 March\n\
     1;2;T2;3;T3;7 March\n\

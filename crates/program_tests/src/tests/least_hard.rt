@@ -1,4 +1,4 @@
-//! What is told of a board without a feasible schedule, where an improvement ends with it.
+//! The lines about a board without a feasible schedule, where an improvement ends with it.
 
 use crate::tests::checks::check_same;
 use crate::tests::told::Text::{self, Excerpt};
@@ -25,7 +25,7 @@ const STRICT: &str = r#"{
     ]
 }"#;
 
-/// The same, with free repeats.
+/// The league with free repeats.
 const FREE: &str = r#"{
     "format": 3,
     "teams": ["A", "B", "C", "D"],

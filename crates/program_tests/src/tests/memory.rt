@@ -14,7 +14,7 @@ use std::sync::Wait;
 use std::test::Fail;
 use std::thread::Threads;
 
-/// What the case's command tells of its input.
+/// The answer of the case's command to its input.
 fn told_of<T: Threads + Wait + Sync>(
     rt: &T,
     alloc: Global,

@@ -15,7 +15,7 @@ use std::time::{Clock, Duration};
 /// How many bytes a write takes at most.
 const MOST_BYTES: usize = 64;
 
-/// What stands under a name, if anything does.
+/// The file under a name, if there is one.
 type Stored = RefCell<Option<Vec<u8>>>;
 
 /// The names on a disk.
@@ -35,7 +35,7 @@ fn place_of(name: &str) -> Place {
     }
 }
 
-/// What a disk has, and what became of it.
+/// The files of a disk, and what became of it.
 #[derive(Drop)]
 struct Contents {
     alloc: Global,
@@ -131,7 +131,7 @@ impl Disk {
         copy_of(self.contents.alloc, self.contents.at(place_of(name)))
     }
 
-    /// What was said on standard error.
+    /// The text on standard error.
     pub(crate) fn said(&self) -> Result<Option<Vec<u8>>, AllocError> {
         copy_of(self.contents.alloc, &self.contents.said)
     }
@@ -236,7 +236,7 @@ impl Files for Disk {
         unsupported()
     }
 
-    /// What isn't safe is lost, as if the machine stopped at once.
+    /// Loses what isn't safe, as if the machine stopped at once.
     fn rename(&self, from: &str, to: &str) -> io::Result<()> {
         self.contents.call()?;
         let mut bytes = self.found(from)?;

@@ -1,4 +1,4 @@
-//! What is found on a league that begins at a schedule of its own.
+//! Searches on a league that begins at a schedule of its own.
 
 use crate::tests::checks::check_same;
 use crate::tests::told::Text::{self, Excerpt};

@@ -18,7 +18,7 @@ use streams::MemorySink;
 /// A league in parts, the text of the schedule at which it begins, if it was given, and the price of a moved game.
 type Beginning<'a> = (&'a [&'a str], Option<&'a str>, u32);
 
-/// What is told of a schedule for a league in a format.
+/// The report of a schedule for a league in a format.
 type Case<'a> = (Beginning<'a>, Format, &'a str, Text<'a>);
 
 /// The league that begins there.

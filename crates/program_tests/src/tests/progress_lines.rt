@@ -93,7 +93,7 @@ fn quick_steps_are_told_by_thousands_and_slow_ones_one_by_one(rt: HostRuntime) {
 /// A worker, and the least total that it tells.
 type Telling = (u32, Option<u64>);
 
-/// What the workers of a search tell in turn.
+/// The reports of a search's workers in turn.
 const TOLD: &[Telling] = &[
     (0, None),
     (1, Some(3_000)),
@@ -195,7 +195,7 @@ const SHOWINGS: &[Showing<'_>] = &[
     },
 ];
 
-/// What the line makes nothing of.
+/// A reply, of which the line makes nothing.
 const REPLY: Reply = Reply::No {
     at: 0,
     why: Why::Old,
@@ -334,7 +334,7 @@ impl<C: Clock, W: Sink> Gate for ByHundreds<'_, C, W> {
     }
 }
 
-/// What stands last on a terminal before it is taken away.
+/// The text that stands last on a terminal before it is taken away.
 pub(crate) fn last_line(shown: &[u8]) -> Option<&str> {
     let shown = str::from_utf8(shown).ok()?;
     let (lines, _) = shown.rsplit_once("\r\x1b[K")?;

@@ -66,7 +66,7 @@ const CLASSES: Case<'_> = (
     ),
 );
 
-/// What no schedule of four teams breaks, and games 1-2 and 2-1, of which one is in rounds 1 to 3.
+/// Rules that no schedule of four teams breaks, and games 1-2 and 2-1, of which one is in rounds 1 to 3.
 const ALL_KEPT: &str = r#","rules":[
     {"class":"CA1","kind":"hard","teams":[1,2,3,4],"mode":"H","max":3},
     {"class":"CA1","kind":"hard","teams":[1,2,3],"mode":"A","slots":[],"max":0},

@@ -135,7 +135,7 @@ pub(crate) const PAGE: Case<'_> = (
     ),
 );
 
-/// What the league of a table is called.
+/// The name of a table's league.
 pub(crate) const NAMED: Settings<'_> = Settings {
     title: Some("Four \"trees\""),
     at_most: None,

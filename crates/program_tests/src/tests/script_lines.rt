@@ -1,4 +1,4 @@
-//! What the lines of a script say, and how an input is cut.
+//! The meaning of a script's lines, and how an input is cut.
 
 use crate::tests::checks::{check_same, check_same_of};
 use crate::tests::distinct::are_distinct;

@@ -63,7 +63,7 @@ fn a_written_table_is_read_again(rt: HostRuntime) -> Result<(), Fail> {
     check_case(&rt, rt.alloc(), &READ_AGAIN)
 }
 
-/// What `report --format csv` writes for names with commas and quotation marks, under a head row that gives the names in place of the
+/// The table that `report --format csv` writes for names with commas and quotation marks, under a head row that gives the names in place of the
 /// numbers, is the same schedule.
 #[test]
 fn any_names_are_read_again(rt: HostRuntime) -> Result<(), Fail> {

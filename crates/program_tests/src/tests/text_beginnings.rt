@@ -17,7 +17,7 @@ const LAST: &str = "league 4 teams 6 rounds\nround 1: 1-2\nleague\n\
     round 6: 1-4 2-3\nround 2: 1-2 4-3\nround 3: 2-4 3-1\n\
     round 4: 3-2 4-1\nround 5: 2-1 3-4\nround 1: 1-3 4-2\n";
 
-/// The same as a table.
+/// The schedule as a table.
 const TABLE: &str = "home,away\n1,3\n4,2\n1,2\n4,3\n2,4\n3,1\n3,2\n4,1\n2,1\n3,4\nT1,T4\nT2,T3\n";
 
 /// Where the circle of four teams begins with a text, if a round and a game of it are kept at a price of 7.

@@ -1,4 +1,4 @@
-//! What a command answers and writes for an input: cases in tables, and the function that walks them.
+//! Answers and texts of commands for an input: cases in tables, and the function that walks them.
 
 use crate::tests::checks::check_same_of;
 use crate::tests::samples::NAMED;
@@ -29,7 +29,7 @@ pub(crate) const TEXT_REPORT: Command = Command::Report(Format::Text);
 /// A play with the room that it has by default.
 pub(crate) const PLAY_OF_1024: Command = Command::Play { room: 1024 };
 
-/// What a command answers. A report has a verdict.
+/// The answer of a command. A report has a verdict.
 pub(crate) type Answer = Result<Option<Verdict>, ProgramFault>;
 
 /// The answer of a command that isn't a report, and wrote its text.
@@ -60,7 +60,7 @@ impl Command {
     }
 }
 
-/// What a command answered, the text that it wrote, and in how many calls.
+/// The answer of a command, the text that it wrote, and in how many calls.
 #[derive(Drop)]
 pub(crate) struct Told {
     pub(crate) answer: Answer,
@@ -68,7 +68,7 @@ pub(crate) struct Told {
     pub(crate) calls: u64,
 }
 
-/// What the command tells of an input of at most 200,000 bytes of text.
+/// The answer of the command to an input of at most 200,000 bytes of text.
 pub(crate) fn tell<T: Threads + Wait + Sync>(
     rt: &T,
     alloc: Global,
@@ -87,7 +87,7 @@ pub(crate) fn tell<T: Threads + Wait + Sync>(
     })
 }
 
-/// What a text has to be.
+/// The text that is wanted.
 #[derive(Clone, Copy, Debug)]
 pub(crate) enum Text<'a> {
     /// These parts, one after another.

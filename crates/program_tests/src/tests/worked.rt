@@ -300,7 +300,7 @@ fn boards_have_known_answers(rt: HostRuntime) -> Result<(), Fail> {
     check_cases(&rt, rt.alloc(), BOARDS)
 }
 
-/// What the case's command tells of its league and a script.
+/// The text of the case's command for its league and a script.
 fn replayed<T: Threads + Wait + Sync>(
     rt: &T,
     alloc: Global,

@@ -1,4 +1,4 @@
-//! What is said of a word that stands where an option wants a number.
+//! Mistakes in a word that stands where an option wants a number.
 
 use crate::tests::checks::check_same_of;
 use crate::tests::help_texts::told;

@@ -1,4 +1,4 @@
-//! What moves make of schedules.
+//! The schedules that moves make.
 
 use crate::tests::checks::check_same;
 use crate::tests::number_sets::teams_of;
@@ -40,7 +40,7 @@ fn check_rounds(
     Ok(())
 }
 
-/// What the move makes of the schedule, and that it tells the touched cells.
+/// Checks the schedule that the move makes, and that it tells the touched cells.
 fn check_made(
     rt: &impl Abort,
     alloc: Global,

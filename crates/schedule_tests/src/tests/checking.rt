@@ -38,7 +38,7 @@ const MEETINGS: &[Move] = &[
     Move::PartTeams { i: 0, j: 2, k: 2 },
 ];
 
-/// What each of these moves is answered on the start of four teams.
+/// The answer to each of these moves on the start of four teams.
 fn check_answers(
     rt: &impl Abort,
     alloc: Global,

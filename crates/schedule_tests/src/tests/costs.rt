@@ -11,7 +11,7 @@ use std::process::Abort;
 use std::test::Fail;
 use tours::{repeats, runs_over, travel, travel_of};
 
-/// What each of four teams travels.
+/// The travel of each of four teams.
 type Tours = [u64; 4];
 
 /// Travel, runs and repeats.

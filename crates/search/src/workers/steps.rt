@@ -163,7 +163,7 @@ pub(crate) fn step<R: Wait, D: Door, G: Gate>(
         exchange: &exchange,
         known: state.copy_cost.cost,
         weight: scoring.league.hard_weight(),
-        most: state.copy_cost.score.saturating_add(candidate.slack),
+        limit: state.copy_cost.score.saturating_add(candidate.slack),
     };
     let Some(cost) = make_within(copy, scoring.league, &mut state.evaluator, &attempt) else {
         return StepResult::Nothing;

@@ -37,7 +37,7 @@ pub(crate) struct Beginning {
     pub(crate) mv: Move,
     /// The rounds whose games are kept.
     pub(crate) kept: &'static [u8],
-    /// What a game costs that has left its round.
+    /// The cost of a game that has left its round.
     pub(crate) near: u32,
 }
 

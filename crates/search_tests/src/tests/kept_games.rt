@@ -20,7 +20,7 @@ const ALL_ROUNDS: Beginning = Beginning {
     near: 0,
 };
 
-/// What so many workers come to on a new board of the league, if none of their moves costs too much.
+/// The outcome of so many workers on a new board of the league, if none of their moves costs too much.
 fn searched<R: Threads + Wait + Sync>(
     rt: &R,
     alloc: Global,

@@ -152,7 +152,7 @@ fn sixteen_workers_draw_from_their_own_streams(rt: HostRuntime) -> Result<(), Fa
     expect_own_streams(&rt, rt.alloc(), 16)
 }
 
-/// What a worker without others makes of a board.
+/// The history that a worker without others makes on a board.
 fn searched_alone(rt: &impl Wait, alloc: Global, number: u32, steps: u32) -> Result<Board, Fail> {
     let (league, board, mut copy) = circle(alloc, TEAMS, ROOM)?;
     let mut door = OwnDoor {

@@ -37,7 +37,7 @@ fn is_phased(schedule: &Schedule) -> bool {
     true
 }
 
-/// What so many workers find best costs less than the start, and is phased.
+/// The best schedule of so many workers costs less than the start, and is phased.
 fn expect_phased<R: Threads + Wait + Sync + Abort>(
     rt: &R,
     alloc: Global,

@@ -1,4 +1,4 @@
-//! What is reported to a gate of a run.
+//! The reports of a run to a gate.
 
 use crate::tests::checks::check_same;
 use crate::tests::searches::{AskedRun, searched_with};
@@ -36,7 +36,7 @@ impl Gate for Listener<'_> {
     }
 }
 
-/// What is reported to a gate of a run of one worker, of so many steps, on a board of eight teams with so much room.
+/// The reports to a gate of a run of one worker, of so many steps, on a board of eight teams with so much room.
 fn reported<R: Threads + Wait + Sync>(
     rt: &R,
     alloc: Global,

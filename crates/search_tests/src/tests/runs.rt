@@ -29,7 +29,7 @@ fn plan(workers: u32) -> SearchPlan {
     }
 }
 
-/// What a run on the circle of four teams comes to. Its history leads a board of one thread to the same.
+/// The outcome of a run on the circle of four teams. Its history leads a board of one thread to the same.
 fn searched<R: Threads + Wait + Sync + Abort, G: Gate + Sync>(
     rt: &R,
     alloc: Global,

@@ -18,7 +18,7 @@ pub(crate) struct AskedRun {
     pub(crate) plan: SearchPlan,
 }
 
-/// What a run comes to.
+/// The outcome of a run.
 pub(crate) fn searched<R: Threads + Wait + Sync>(
     rt: &R,
     alloc: Global,
@@ -34,7 +34,7 @@ pub(crate) fn searched<R: Threads + Wait + Sync>(
     }
 }
 
-/// What a run through a gate comes to.
+/// The outcome of a run through a gate.
 pub(crate) fn searched_with<R: Threads + Wait + Sync, G: Gate + Sync>(
     rt: &R,
     alloc: Global,

@@ -1,4 +1,4 @@
-//! What a worker asks of its board, step by step. The expected lines are those of `scripts/oracle worker-steps`.
+//! The questions of a worker to its board, step by step. The expected lines are those of `scripts/oracle worker-steps`.
 
 use crate::tests::boards::{Beginning, begun, circle};
 use crate::tests::checks::check_same;
@@ -15,7 +15,7 @@ use std::process::Abort;
 use std::sync::{Mutex, Wait};
 use std::test::Fail;
 
-/// What a worker asks of its board, as `scripts/oracle worker-steps` prints it.
+/// The questions of a worker to its board, as `scripts/oracle worker-steps` prints it.
 enum Asked {
     /// To see the board at this version.
     Look(u64),
@@ -34,7 +34,7 @@ struct Scene {
     steps: u32,
     slack: u64,
     room: u32,
-    /// What another caller does before a call of this number.
+    /// The move of another caller before a call of this number.
     change: Option<(u32, Change)>,
     /// Where the board begins, if not at the Berger table.
     beginning: Option<Beginning>,

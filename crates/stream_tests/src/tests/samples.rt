@@ -1,4 +1,4 @@
-//! What the tests share.
+//! Samples that the tests share.
 
 use streams::Tally;
 

@@ -101,7 +101,7 @@ fn stops_at_a_sink_that_is_full(rt: HostRuntime) {
     check_same(&rt, &sink.held(), &b"two\n".as_slice());
 }
 
-/// What becomes of a text that is written by these steps to a sink with room for it, and the sink's tally.
+/// The outcome of a text that is written by these steps to a sink with room for it, and the sink's tally.
 fn written(memory: &mut MemorySink<'_>, steps: &[Step]) -> (Result<(), WriteFault>, Tally) {
     let mut sink = RehearsedSink::new(memory, steps);
     (write_all(&mut sink, TEXT), sink.tally())

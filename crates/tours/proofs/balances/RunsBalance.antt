@@ -26,16 +26,16 @@ is_run_same g g' set t first rounds stay fits out =
     same : (k : ℕ) → k < rounds → is_home g' t (first + k) ≡ is_home g t (first + k)
     same k below = stay (first + k) (omega arith) (any_below_fails rounds (λ k. set (first + k)) out k below)
 
-pub runs_of_balance : (g g' : Games) (most : ℕ) (rounds : ℕ → Bool) (t : ℕ) → g'.teams ≡ g.teams → SidesStay g g' rounds t →
-    runs_of g' most t + runs_part_of g most rounds t ≡ runs_of g most t + runs_part_of g' most rounds t
+pub runs_of_balance : (g g' : Games) (limit : ℕ) (rounds : ℕ → Bool) (t : ℕ) → g'.teams ≡ g.teams → SidesStay g g' rounds t →
+    runs_of g' limit t + runs_part_of g limit rounds t ≡ runs_of g limit t + runs_part_of g' limit rounds t
 unfolding runs_of runs_part_of
-runs_of_balance g g' most rounds t size stay =
-    sum_balance (windows g (most + 1)) (windows g' (most + 1)) (λ f. one (is_run g' t f (most + 1))) (λ f. one (is_run g t f (most + 1)))
-    (λ f. one (touches_window rounds f (most + 1) && is_run g' t f (most + 1)))
-    (λ f. one (touches_window rounds f (most + 1) && is_run g t f (most + 1)))
-    (ap (λ n. round_count n + 1 - (most + 1)) size)
-    (λ f below. count_balance (touches_window rounds f (most + 1)) (is_run g' t f (most + 1)) (is_run g t f (most + 1))
-    (is_run_same g g' rounds t f (most + 1) stay (omega arith)))
+runs_of_balance g g' limit rounds t size stay =
+    sum_balance (windows g (limit + 1)) (windows g' (limit + 1)) (λ f. one (is_run g' t f (limit + 1))) (λ f. one (is_run g t f (limit + 1)))
+    (λ f. one (touches_window rounds f (limit + 1) && is_run g' t f (limit + 1)))
+    (λ f. one (touches_window rounds f (limit + 1) && is_run g t f (limit + 1)))
+    (ap (λ n. round_count n + 1 - (limit + 1)) size)
+    (λ f below. count_balance (touches_window rounds f (limit + 1)) (is_run g' t f (limit + 1)) (is_run g t f (limit + 1))
+    (is_run_same g g' rounds t f (limit + 1) stay (omega arith)))
 
 -- cells of touched teams in touched rounds
 
@@ -43,26 +43,26 @@ none_touched : (first rounds : ℕ) (run : Bool) → (touches_window (λ _. fals
 unfolding touches_window
 none_touched first rounds run = rw (any_below_from_none rounds (λ _. false) (λ k below. refl)) refl
 
-pub part_of_box : (g : Games) (most : ℕ) (rounds : ℕ → Bool) (t : ℕ) (inside : Bool) →
-    runs_part_of g most (λ r. inside && rounds r) t ≡ (if inside then runs_part_of g most rounds t else 0)
+pub part_of_box : (g : Games) (limit : ℕ) (rounds : ℕ → Bool) (t : ℕ) (inside : Bool) →
+    runs_part_of g limit (λ r. inside && rounds r) t ≡ (if inside then runs_part_of g limit rounds t else 0)
 unfolding runs_part_of
-part_of_box g most rounds t true = refl
-part_of_box g most rounds t false =
-    count_where_none (windows g (most + 1)) (λ f. touches_window (λ _. false) f (most + 1) && is_run g t f (most + 1))
-    (λ f below. none_touched f (most + 1) (is_run g t f (most + 1)))
+part_of_box g limit rounds t true = refl
+part_of_box g limit rounds t false =
+    count_where_none (windows g (limit + 1)) (λ f. touches_window (λ _. false) f (limit + 1) && is_run g t f (limit + 1))
+    (λ f below. none_touched f (limit + 1) (is_run g t f (limit + 1)))
 
 side_of_cell : (g g' : Games) (t r : ℕ) → cell g' t r ≡ cell g t r → is_home g' t r ≡ is_home g t r
 unfolding is_home
 side_of_cell g g' t r same = ap (λ (c : Cell). c.home) same
 
-pub runs_balance : (g g' : Games) (most : ℕ) (teams rounds : ℕ → Bool) → DiffersOnlyIn g g' teams rounds →
-    runs_over g' most + runs_part g most teams rounds ≡ runs_over g most + runs_part g' most teams rounds
+pub runs_balance : (g g' : Games) (limit : ℕ) (teams rounds : ℕ → Bool) → DiffersOnlyIn g g' teams rounds →
+    runs_over g' limit + runs_part g limit teams rounds ≡ runs_over g limit + runs_part g' limit teams rounds
 unfolding runs_over runs_part
-runs_balance g g' most teams rounds d =
-    sum_balance g.teams g'.teams (runs_of g' most) (runs_of g most) (λ t. if teams t then runs_part_of g' most rounds t else 0)
-    (λ t. if teams t then runs_part_of g most rounds t else 0) d.same_size
+runs_balance g g' limit teams rounds d =
+    sum_balance g.teams g'.teams (runs_of g' limit) (runs_of g limit) (λ t. if teams t then runs_part_of g' limit rounds t else 0)
+    (λ t. if teams t then runs_part_of g limit rounds t else 0) d.same_size
     (λ t in_t.
-    ap (λ x. runs_of g' most t + x) (sym (part_of_box g most rounds t (teams t))) ∙
-    runs_of_balance g g' most (λ r. teams t && rounds r) t d.same_size
+    ap (λ x. runs_of g' limit t + x) (sym (part_of_box g limit rounds t (teams t))) ∙
+    runs_of_balance g g' limit (λ r. teams t && rounds r) t d.same_size
     (λ r in_r out. side_of_cell g g' t r (d.same_cells t r in_t in_r out)) ∙
-    ap (λ x. runs_of g most t + x) (part_of_box g' most rounds t (teams t)))
+    ap (λ x. runs_of g limit t + x) (part_of_box g' limit rounds t (teams t)))

@@ -146,10 +146,10 @@ module _ (g : Games) (rr : IsDoubleRoundRobin g) (k l : ℕ) (p : IsPair (round_
     | inl end ↦ cond-true _ _ _ end ∙ sym (cond-true _ _ _ end)
     | inr within ↦
         let some = some_round index (round_count g.teams) within in
-        let most = in_season index (round_count g.teams) within in
+        let limit = in_season index (round_count g.teams) within in
         cond-false _ _ _ within ∙
         ap (λ (c : Cell). c.opponent)
-        (cell_rounds_exchanged g rr k l p.home_in p.away_in among closed t (index - 1) in_t (omega (arith, some, most)) ∙
+        (cell_rounds_exchanged g rr k l p.home_in p.away_in among closed t (index - 1) in_t (omega (arith, some, limit)) ∙
         cond-false _ _ _ out) ∙
         sym (cond-false _ _ _ within)
   ]
@@ -162,8 +162,8 @@ module _ (g : Games) (rr : IsDoubleRoundRobin g) (k l : ℕ) (p : IsPair (round_
         (unmoved_end index l (round_count g.teams) p.away_in end)) ∙ cond-true _ _ _ end)
     | inr within ↦
         let some = some_round index (round_count g.teams) within in
-        let most = in_season index (round_count g.teams) within in
-        let in_r : index - 1 < round_count g.teams = omega (arith, some, most) in
+        let limit = in_season index (round_count g.teams) within in
+        let in_r : index - 1 < round_count g.teams = omega (arith, some, limit) in
         let next : index ≡ (index - 1) + 1 = omega (arith, some) in
         cond-false _ _ _ within ∙
         ap (λ (c : Cell). c.opponent)

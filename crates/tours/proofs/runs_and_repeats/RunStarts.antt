@@ -111,11 +111,11 @@ runs_counted g team length runs starts counted least season is_runs is_counted =
     regroup (nat_lt f (windows g length)) (is_run g team f length) (has starts f))
 
 -- how many there are
-pub all_runs_counted : (g : Games) (team most runs : ℕ) → round_count g.teams ≤ max_rounds → HasRuns g team (most + 1) runs →
-    count_where max_rounds (has runs) ≡ runs_of g most team
+pub all_runs_counted : (g : Games) (team limit runs : ℕ) → round_count g.teams ≤ max_rounds → HasRuns g team (limit + 1) runs →
+    count_where max_rounds (has runs) ≡ runs_of g limit team
 unfolding runs_of
-all_runs_counted g team most runs season is_runs =
-    windows_counted g (most + 1) runs (λ f. is_run g team f (most + 1)) (omega arith) season is_runs
+all_runs_counted g team limit runs season is_runs =
+    windows_counted g (limit + 1) runs (λ f. is_run g team f (limit + 1)) (omega arith) season is_runs
 
 -- none, where none of its runs does
 pub no_runs_counted : (g : Games) (team length runs starts : ℕ) → 1 ≤ length → round_count g.teams ≤ max_rounds → HasRuns g team length runs →
@@ -136,25 +136,25 @@ no_runs_counted g team length runs starts least season is_runs out =
 
 -- what a walk over the teams of a set counts
 abbrev pub runs_walked : Games → ℕ → ℕ → ℕ → ℕ
-runs_walked g most among starts =
-    sum_where g.teams (has among) (λ t. count_where (windows g (most + 1)) (λ first. has starts first && is_run g t first (most + 1)))
+runs_walked g limit among starts =
+    sum_where g.teams (has among) (λ t. count_where (windows g (limit + 1)) (λ first. has starts first && is_run g t first (limit + 1)))
 
-pub runs_walked_part : (g : Games) (most among starts : ℕ) (teams rounds : ℕ → Bool) → ((t : ℕ) → t < g.teams → has among t ≡ teams t) →
-    ((first : ℕ) → has starts first ≡ touches_window rounds first (most + 1)) →
-    runs_walked g most among starts ≡ runs_part g most teams rounds
+pub runs_walked_part : (g : Games) (limit among starts : ℕ) (teams rounds : ℕ → Bool) → ((t : ℕ) → t < g.teams → has among t ≡ teams t) →
+    ((first : ℕ) → has starts first ≡ touches_window rounds first (limit + 1)) →
+    runs_walked g limit among starts ≡ runs_part g limit teams rounds
 unfolding runs_part runs_part_of
-runs_walked_part g most among starts teams rounds members is_starts =
+runs_walked_part g limit among starts teams rounds members is_starts =
     sum_where_same g.teams (has among) teams
-    (λ t. count_where (windows g (most + 1)) (λ f. has starts f && is_run g t f (most + 1))) (runs_part_of g most rounds) members
-    (λ t in_t inside. count_where_same (windows g (most + 1)) (λ f. has starts f && is_run g t f (most + 1))
-    (λ f. touches_window rounds f (most + 1) && is_run g t f (most + 1))
-    (λ f below. ap (λ b. b && is_run g t f (most + 1)) (is_starts f)))
+    (λ t. count_where (windows g (limit + 1)) (λ f. has starts f && is_run g t f (limit + 1))) (runs_part_of g limit rounds) members
+    (λ t in_t inside. count_where_same (windows g (limit + 1)) (λ f. has starts f && is_run g t f (limit + 1))
+    (λ f. touches_window rounds f (limit + 1) && is_run g t f (limit + 1))
+    (λ f below. ap (λ b. b && is_run g t f (limit + 1)) (is_starts f)))
 
-pub runs_walked_all : (g : Games) (most all starts : ℕ) → ((t : ℕ) → t < g.teams → has all t ≡ true) →
-    ((first : ℕ) → first < round_count g.teams → has starts first ≡ true) → runs_walked g most all starts ≡ runs_over g most
+pub runs_walked_all : (g : Games) (limit all starts : ℕ) → ((t : ℕ) → t < g.teams → has all t ≡ true) →
+    ((first : ℕ) → first < round_count g.teams → has starts first ≡ true) → runs_walked g limit all starts ≡ runs_over g limit
 unfolding runs_over runs_of
-runs_walked_all g most all starts members is_starts =
+runs_walked_all g limit all starts members is_starts =
     sum_where_same g.teams (has all) (λ _. true)
-    (λ t. count_where (windows g (most + 1)) (λ f. has starts f && is_run g t f (most + 1))) (runs_of g most) members
-    (λ t in_t inside. count_where_same (windows g (most + 1)) (λ f. has starts f && is_run g t f (most + 1)) (λ f. is_run g t f (most + 1))
-    (λ f below. ap (λ b. b && is_run g t f (most + 1)) (is_starts f (omega arith))))
+    (λ t. count_where (windows g (limit + 1)) (λ f. has starts f && is_run g t f (limit + 1))) (runs_of g limit) members
+    (λ t in_t inside. count_where_same (windows g (limit + 1)) (λ f. has starts f && is_run g t f (limit + 1)) (λ f. is_run g t f (limit + 1))
+    (λ f below. ap (λ b. b && is_run g t f (limit + 1)) (is_starts f (omega arith))))

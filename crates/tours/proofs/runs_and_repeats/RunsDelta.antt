@@ -23,14 +23,14 @@ use Rattle.tours.proofs.balances.RunsBalance.{runs_of_balance, part_of_box}
 use Rattle.tours.proofs.exchanged_legs.TeamsDelta.{unmoved, of_either}
 
 -- a team of which no side differs has as many runs
-runs_of_same : (g g' : Games) (most t : ℕ) → g'.teams ≡ g.teams →
-    ((r : ℕ) → r < round_count g.teams → is_home g' t r ≡ is_home g t r) → runs_of g' most t ≡ runs_of g most t
-runs_of_same g g' most t size same =
+runs_of_same : (g g' : Games) (limit t : ℕ) → g'.teams ≡ g.teams →
+    ((r : ℕ) → r < round_count g.teams → is_home g' t r ≡ is_home g t r) → runs_of g' limit t ≡ runs_of g limit t
+runs_of_same g g' limit t size same =
     omega (
       arith,
-      runs_of_balance g g' most (λ _. false) t size (λ r in_r out. same r in_r),
-      part_of_box g most (λ _. false) t false,
-      part_of_box g' most (λ _. false) t false,
+      runs_of_balance g g' limit (λ _. false) t size (λ r in_r out. same r in_r),
+      part_of_box g limit (λ _. false) t false,
+      part_of_box g' limit (λ _. false) t false,
     )
 
 by_tests : (a b : Bool) (new old : ℕ) → ((a && b) ≡ false → new ≡ old) →
@@ -40,18 +40,18 @@ by_tests true false new old same = ap (λ x. x + 0) (same refl)
 by_tests false b new old same = ap (λ x. x + 0) (same refl)
 
 -- no side differs but of the turning teams of a set
-runs_by_teams : (g : Games) (at : ℕ → ℕ → ℕ) (most : ℕ) (teams turning : ℕ → Bool) →
+runs_by_teams : (g : Games) (at : ℕ → ℕ → ℕ) (limit : ℕ) (teams turning : ℕ → Bool) →
     ((t r : ℕ) → t < g.teams → r < round_count g.teams → (teams t && turning t) ≡ false →
     is_home (games g.teams at) t r ≡ is_home g t r) →
-    runs_over (games g.teams at) most + sum_where g.teams teams (λ t. if turning t then runs_of g most t else 0) ≡
-    runs_over g most + sum_where g.teams teams (λ t. if turning t then runs_of (games g.teams at) most t else 0)
+    runs_over (games g.teams at) limit + sum_where g.teams teams (λ t. if turning t then runs_of g limit t else 0) ≡
+    runs_over g limit + sum_where g.teams teams (λ t. if turning t then runs_of (games g.teams at) limit t else 0)
 unfolding runs_over
-runs_by_teams g at most teams turning others =
-    sum_below_balance g.teams (runs_of (games g.teams at) most) (runs_of g most)
-    (λ t. if teams t then (if turning t then runs_of (games g.teams at) most t else 0) else 0)
-    (λ t. if teams t then (if turning t then runs_of g most t else 0) else 0)
-    (λ t in_t. by_tests (teams t) (turning t) (runs_of (games g.teams at) most t) (runs_of g most t)
-    (λ out. runs_of_same g (games g.teams at) most t refl (λ r in_r. others t r in_t in_r out)))
+runs_by_teams g at limit teams turning others =
+    sum_below_balance g.teams (runs_of (games g.teams at) limit) (runs_of g limit)
+    (λ t. if teams t then (if turning t then runs_of (games g.teams at) limit t else 0) else 0)
+    (λ t. if teams t then (if turning t then runs_of g limit t else 0) else 0)
+    (λ t in_t. by_tests (teams t) (turning t) (runs_of (games g.teams at) limit t) (runs_of g limit t)
+    (λ out. runs_of_same g (games g.teams at) limit t refl (λ r in_r. others t r in_t in_r out)))
 
 at_most_all : (a b : Bool) (x : ℕ) → (if a then (if b then x else 0) else 0) ≤ x
 at_most_all true true x = le_refl x
@@ -59,12 +59,12 @@ at_most_all true false x = omega arith
 at_most_all false b x = omega arith
 
 -- which are no more than all
-pub part_of_runs : (g : Games) (most : ℕ) (teams turning : ℕ → Bool) →
-    sum_where g.teams teams (λ t. if turning t then runs_of g most t else 0) ≤ runs_over g most
+pub part_of_runs : (g : Games) (limit : ℕ) (teams turning : ℕ → Bool) →
+    sum_where g.teams teams (λ t. if turning t then runs_of g limit t else 0) ≤ runs_over g limit
 unfolding runs_over
-part_of_runs g most teams turning =
-    sum_below_le_each g.teams (λ t. if teams t then (if turning t then runs_of g most t else 0) else 0) (runs_of g most)
-    (λ t in_t. at_most_all (teams t) (turning t) (runs_of g most t))
+part_of_runs g limit teams turning =
+    sum_below_le_each g.teams (λ t. if teams t then (if turning t then runs_of g limit t else 0) else 0) (runs_of g limit)
+    (λ t in_t. at_most_all (teams t) (turning t) (runs_of g limit t))
 
 guarded : (guard a b : Bool) → (guard ≡ true → a ≡ b) → (guard && a) ≡ (guard && b)
 guarded true a b same = same refl
@@ -107,11 +107,11 @@ module _ (g : Games) (rr : IsDoubleRoundRobin g) (k l : ℕ) (p : IsPair (round_
     | inr is_out ↦ side_after t r false is_out in_t in_r
   ]
 
-  pub of_turning : (most : ℕ) (teams : ℕ → Bool) → ((t : ℕ) → t < g.teams → teams t ≡ among t) →
-      runs_over after most + sum_where g.teams teams (λ t. if turns g k l t then runs_of g most t else 0) ≡
-      runs_over g most + sum_where g.teams teams (λ t. if turns g k l t then runs_of after most t else 0)
-  of_turning most teams members =
-      runs_by_teams g (λ h a. if among h then exchanged k l (round_of g h a) else round_of g h a) most teams (turns g k l)
+  pub of_turning : (limit : ℕ) (teams : ℕ → Bool) → ((t : ℕ) → t < g.teams → teams t ≡ among t) →
+      runs_over after limit + sum_where g.teams teams (λ t. if turns g k l t then runs_of g limit t else 0) ≡
+      runs_over g limit + sum_where g.teams teams (λ t. if turns g k l t then runs_of after limit t else 0)
+  of_turning limit teams members =
+      runs_by_teams g (λ h a. if among h then exchanged k l (round_of g h a) else round_of g h a) limit teams (turns g k l)
       (λ t r in_t in_r out. others_stay t r in_t in_r (sym (ap (λ b. b && turns g k l t) (members t in_t)) ∙ out))
 
 -- a team of the set has the sides that it has where the two are exchanged for all teams
@@ -124,16 +124,16 @@ side_for_all : (g : Games) (k l : ℕ) → IsDoubleRoundRobin g → IsPair (roun
 side_for_all g k l rr p t r = side_after g rr k l p (λ _. true) (λ x y step member. member) t r true refl
 
 pub rounds_delta : (g : Games) (rr : IsDoubleRoundRobin g) (k l : ℕ) (p : IsPair (round_count g.teams) k l) (among : ℕ → Bool) →
-    IsClosed (plays_in g k l) among → (most : ℕ) (teams : ℕ → Bool) → ((t : ℕ) → t < g.teams → teams t ≡ among t) →
-    runs_over (rounds_exchanged g k l among) most + sum_where g.teams teams (λ t. if turns g k l t then runs_of g most t else 0) ≡
-    runs_over g most + sum_where g.teams teams (λ t. if turns g k l t then runs_of (for_all g k l) most t else 0)
-rounds_delta g rr k l p among closed most teams members =
-    of_turning g rr k l p among closed most teams members ∙
-    ap (λ x. runs_over g most + x)
-    (sum_where_same g.teams teams teams (λ t. if turns g k l t then runs_of (rounds_exchanged g k l among) most t else 0)
-    (λ t. if turns g k l t then runs_of (for_all g k l) most t else 0) (λ t in_t. refl)
+    IsClosed (plays_in g k l) among → (limit : ℕ) (teams : ℕ → Bool) → ((t : ℕ) → t < g.teams → teams t ≡ among t) →
+    runs_over (rounds_exchanged g k l among) limit + sum_where g.teams teams (λ t. if turns g k l t then runs_of g limit t else 0) ≡
+    runs_over g limit + sum_where g.teams teams (λ t. if turns g k l t then runs_of (for_all g k l) limit t else 0)
+rounds_delta g rr k l p among closed limit teams members =
+    of_turning g rr k l p among closed limit teams members ∙
+    ap (λ x. runs_over g limit + x)
+    (sum_where_same g.teams teams teams (λ t. if turns g k l t then runs_of (rounds_exchanged g k l among) limit t else 0)
+    (λ t. if turns g k l t then runs_of (for_all g k l) limit t else 0) (λ t in_t. refl)
     (λ t in_t is_in. ap (λ x. if turns g k l t then x else 0)
-    (runs_of_same (for_all g k l) (rounds_exchanged g k l among) most t refl
+    (runs_of_same (for_all g k l) (rounds_exchanged g k l among) limit t refl
     (λ r in_r. side_after g rr k l p among closed t r true (sym (members t in_t) ∙ is_in) in_t in_r ∙
     sym (side_for_all g k l rr p t r in_t in_r)))))
 
@@ -222,18 +222,18 @@ module _ (g : Games) (rr : IsDoubleRoundRobin g) (i j : ℕ) (p : IsPair g.teams
       either_way true x = refl
       either_way false x = refl
 
-  pub teams_delta : (most : ℕ) → runs_over after_teams most + (runs_of g most j + runs_of g most i) ≡
-      runs_over g most + (runs_of after_teams most j + runs_of after_teams most i)
-  teams_delta most =
-      ap (λ x. runs_over after_teams most + x) (sym (of_either g.teams i j (runs_of g most) p)) ∙
+  pub teams_delta : (limit : ℕ) → runs_over after_teams limit + (runs_of g limit j + runs_of g limit i) ≡
+      runs_over g limit + (runs_of after_teams limit j + runs_of after_teams limit i)
+  teams_delta limit =
+      ap (λ x. runs_over after_teams limit + x) (sym (of_either g.teams i j (runs_of g limit) p)) ∙
       runs_by_teams g (λ h a. if among (round_of g h a) then round_of g (exchanged i j h) (exchanged i j a) else round_of g h a)
-      most (is_either i j) (λ _. true) guests_stay ∙
-      ap (λ x. runs_over g most + x) (of_either g.teams i j (runs_of after_teams most) p)
+      limit (is_either i j) (λ _. true) guests_stay ∙
+      ap (λ x. runs_over g limit + x) (of_either g.teams i j (runs_of after_teams limit) p)
 
-  pub part_of_two : (most : ℕ) → runs_of g most j + runs_of g most i ≤ runs_over g most
-  part_of_two most =
-      subst (λ (x : ℕ). x ≤ runs_over g most) (of_either g.teams i j (runs_of g most) p)
-      (part_of_runs g most (is_either i j) (λ _. true))
+  pub part_of_two : (limit : ℕ) → runs_of g limit j + runs_of g limit i ≤ runs_over g limit
+  part_of_two limit =
+      subst (λ (x : ℕ). x ≤ runs_over g limit) (of_either g.teams i j (runs_of g limit) p)
+      (part_of_runs g limit (is_either i j) (λ _. true))
 
   -- the home rounds of one of the two, which has the other's in the rounds of the set
   pub exchanged_row : (t other home_t home_other new : ℕ) → t < g.teams → exchanged i j t ≡ other → HasHomes g t home_t →

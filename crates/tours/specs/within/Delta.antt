@@ -11,11 +11,11 @@ use Rattle.tours.specs.Runs.{windows, is_run}
 use Rattle.tours.specs.Tours.{tour}
 
 -- what a walk over the numbers of a set sums up: two terms of each number, one as it is and one after an exchange
-pub record AreSums (n set most x y : ℕ) (f g : ℕ → ℕ) : Type 0 where
+pub record AreSums (n set limit x y : ℕ) (f g : ℕ → ℕ) : Type 0 where
   pub before : x ≡ sum_where n (has set) f
   pub after : y ≡ sum_where n (has set) g
-  pub before_most : x ≤ most * n
-  pub after_most : y ≤ most * n
+  pub before_limit : x ≤ limit * n
+  pub after_limit : y ≤ limit * n
 
 -- of a tour's legs, those that touch one of the rounds k and l, of which k is the first
 abbrev pub legs_around : (ℕ → ℕ) → ℕ → ℕ → ℕ

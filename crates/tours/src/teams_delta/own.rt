@@ -23,8 +23,8 @@ impl TeamExchange<'_> {
             part_of (leg_after self.now) self.now.schedule.now (has self.now.rounds) self.now.i) + result.before ≡
             (part_of (leg_before self.now) self.now.schedule.now (has self.now.rounds) self.now.j +
             part_of (leg_before self.now) self.now.schedule.now (has self.now.rounds) self.now.i) + result.after }
-        ensures before_most { result.before ≤ (4 * max_rounds + 2) * max_distance }
-        ensures after_most { result.after ≤ (4 * max_rounds + 2) * max_distance }
+        ensures before_limit { result.before ≤ (4 * max_rounds + 2) * max_distance }
+        ensures after_limit { result.after ≤ (4 * max_rounds + 2) * max_distance }
     {
         prove_eq!(self.league.teams(), self.schedule.teams());
         let inner = self.rounds.starts_within(2);
@@ -48,8 +48,8 @@ impl TeamExchange<'_> {
             then leg_before self.now self.now.j 0 + leg_before self.now self.now.i 0 else 0) }
         ensures after { result.after ≡ (if has self.now.rounds 0
             then leg_after self.now self.now.j 0 + leg_after self.now self.now.i 0 else 0) }
-        ensures before_most { result.before ≤ 2 * max_distance }
-        ensures after_most { result.after ≤ 2 * max_distance }
+        ensures before_limit { result.before ≤ 2 * max_distance }
+        ensures after_limit { result.after ≤ 2 * max_distance }
     {
         if self.rounds.has(0) {
             self.legs_across(1, 0)
@@ -87,8 +87,8 @@ impl TeamExchange<'_> {
             leg_before self.now self.now.j (round + 1) + leg_before self.now self.now.i (round + 1) }
         ensures after { result.after ≡
             leg_after self.now self.now.j (round + 1) + leg_after self.now self.now.i (round + 1) }
-        ensures before_most { result.before ≤ 2 * max_distance }
-        ensures after_most { result.after ≤ 2 * max_distance }
+        ensures before_limit { result.before ≤ 2 * max_distance }
+        ensures after_limit { result.after ≤ 2 * max_distance }
     {
         prove_eq!(self.league.teams(), self.schedule.teams());
         if self.rounds.has(round) {
@@ -108,8 +108,8 @@ impl TeamExchange<'_> {
         ensures after { result.after ≡
             way_across self.now self.now.j outside (exchanged self.now.i self.now.j (stop_of self.now self.now.i inside)) +
             way_across self.now self.now.i outside (exchanged self.now.i self.now.j (stop_of self.now self.now.j inside)) }
-        ensures before_most { result.before ≤ 2 * max_distance }
-        ensures after_most { result.after ≤ 2 * max_distance }
+        ensures before_limit { result.before ≤ 2 * max_distance }
+        ensures after_limit { result.after ≤ 2 * max_distance }
     {
         let from_i = stop(self.schedule, self.i, outside);
         let from_j = stop(self.schedule, self.j, outside);
@@ -146,8 +146,8 @@ impl TeamExchange<'_> {
         requires turn { IsTurn self.now.schedule.now self.now.i self.now.j team round }
         ensures before { result.before ≡ leg_before self.now team (round + 1) }
         ensures after { result.after ≡ turned_after self.now team (round + 1) }
-        ensures before_most { result.before ≤ max_distance }
-        ensures after_most { result.after ≤ max_distance }
+        ensures before_limit { result.before ≤ max_distance }
+        ensures after_limit { result.after ≤ max_distance }
     {
         prove_eq!(self.league.teams(), self.schedule.teams());
         let from = stop(self.schedule, team, round + 1);

@@ -27,8 +27,8 @@ impl TeamExchange<'_> {
         ensures after { result.after ≡ sum_where (round_count self.now.schedule.now.teams)
             (λ r. has self.now.rounds r && is_home self.now.schedule.now host r)
             (around_visit self.now (leg_after self.now) host) }
-        ensures before_most { result.before ≤ 2 * max_distance * max_rounds }
-        ensures after_most { result.after ≤ 2 * max_distance * max_rounds }
+        ensures before_limit { result.before ≤ 2 * max_distance * max_rounds }
+        ensures after_limit { result.after ≤ 2 * max_distance * max_rounds }
     {
         let home = self.schedule.home_rounds(host);
         let visits = home.intersection(self.rounds);
@@ -63,8 +63,8 @@ impl TeamExchange<'_> {
         requires in_set { has self.now.rounds round ≡ true }
         ensures before { result.before ≡ around_visit self.now (leg_before self.now) host round }
         ensures after { result.after ≡ around_visit self.now (leg_after self.now) host round }
-        ensures before_most { result.before ≤ 2 * max_distance }
-        ensures after_most { result.after ≤ 2 * max_distance }
+        ensures before_limit { result.before ≤ 2 * max_distance }
+        ensures after_limit { result.after ≤ 2 * max_distance }
     {
         let other = self.exchanged(host);
         let guest = self.schedule.game_at(host, round).opponent;

@@ -8,13 +8,13 @@ use Rattle.costs.proofs.cost_delta.predicted_within.Goals as goal
 pub travel_after-travel-requires-clause-known : goal.travel_after-travel-requires-clause-known
 travel_after-travel-requires-clause-known c = ap (λ (cost : Cost). cost.travel) c.requires.known ∙ cost_travel _ _
 
-pub returns-then-travel-most : goal.returns-then-travel-most
-returns-then-travel-most c =
+pub returns-then-travel-limit : goal.returns-then-travel-limit
+returns-then-travel-limit c =
     omega (
       arith,
       travel_scores c.args.league.now c.args.attempt.now.weight (exchanged_by c.args.schedule.now c.args.attempt.now.exchange.now),
       c.travel_after-travel.ensures,
-      c.if-travel-most.true,
+      c.if-travel-limit.true,
     )
 
 pub score_by-requires : goal.score_by-requires
@@ -28,15 +28,15 @@ score_by-requires c =
           c.teams.ensures.limits c.requires.same_size (omega arith),
     )
 
-pub returns-then-score_by-most : goal.returns-then-score_by-most
-returns-then-score_by-most c =
+pub returns-then-score_by-limit : goal.returns-then-score_by-limit
+returns-then-score_by-limit c =
     omega (
       arith,
       least_scores c.args.league.now c.args.attempt.now.weight (exchanged_by c.args.schedule.now c.args.attempt.now.exchange.now) c.runs_of-runs.result.after
           (omega (arith, c.runs_of-runs.ensures.balance, c.runs_of-runs.ensures.within)),
       c.travel_after-travel.ensures,
       c.score_by.ensures,
-      c.if-score_by-most.true,
+      c.if-score_by-limit.true,
     )
 
 pub overflow_add-result : goal.overflow_add-result
@@ -79,7 +79,7 @@ overflow_add-result-3 c =
     omega (
       arith,
       ap (λ (cost : Cost). cost.soft) c.requires.known,
-      c.leaving_of-leaving.ensures.after_most,
+      c.leaving_of-leaving.ensures.after_limit,
       (cost_small c.args.league.now c.args.schedule.now c.teams.ensures.limits c.requires.same_size).soft,
     )
 

@@ -7,7 +7,7 @@ overflow_add-result c =
     omega (
       arith,
       c.requires.known,
-      c.legs_of-legs.ensures.after_most,
+      c.legs_of-legs.ensures.after_limit,
       travel_le c.args.league.now c.args.schedule.now c.teams.ensures.limits (omega (arith, c.teams-2.ensures.most)),
     )
 

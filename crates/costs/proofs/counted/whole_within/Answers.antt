@@ -78,5 +78,5 @@ pub returns-clause-cost : goal.returns-clause-cost
 returns-clause-cost c = (
   all_counted c.args.league.now c.args.scope.now c.args.schedule.now c.args.rest c.loop-i.cost _ c.requires.rest
       c.in-None.ensures.steps.0 c.loop-i.invariant.counted,
-  omega (arith, c.score_by-2.ensures, c.if-score_by-most-2.false),
+  omega (arith, c.score_by-2.ensures, c.if-score_by-limit-2.false),
 )

@@ -7,5 +7,5 @@ use Rattle.tours.proofs.moved.moved_at_home.Given as goal
 abbrev pub invariant-loop-away : goal.invariant-loop-away
 invariant-loop-away l = record {
   value : l.moved ≡ count_where l.away (is_moved (start_round l.league) l.schedule l.home);
-  most : l.moved ≤ l.away;
+  limit : l.moved ≤ l.away;
 }

@@ -8,5 +8,5 @@ use Rattle.tours.proofs.moved.moved_games.Given as goal
 abbrev pub invariant-loop-home : goal.invariant-loop-home
 invariant-loop-home l = record {
   value : l.moved ≡ sum_below l.home (λ home. count_where l.schedule.teams (is_moved (start_round l.league) l.schedule home));
-  most : l.moved ≤ l.home * max_teams;
+  limit : l.moved ≤ l.home * max_teams;
 }

@@ -16,7 +16,7 @@ moved_of_team-moved-requires-clause-team c =
 pub loop-team-preserved : goal.loop-team-preserved
 loop-team-preserved c =
     totals_more _ _ _ _ _ _ _ _ _ _ _ _ c.loop-team.invariant c.in-Some.ensures.steps c.moved_of_team-moved.ensures.before
-    c.moved_of_team-moved.ensures.after c.moved_of_team-moved.ensures.before_most c.moved_of_team-moved.ensures.after_most
+    c.moved_of_team-moved.ensures.after c.moved_of_team-moved.ensures.before_limit c.moved_of_team-moved.ensures.after_limit
 
 pub returns-clause-balance : goal.returns-clause-balance
 returns-clause-balance c =

@@ -37,7 +37,7 @@ moved_of_two-moved-requires-clause-second_apart c =
 pub loop-round-preserved : goal.loop-round-preserved
 loop-round-preserved c =
     totals_more _ _ _ _ _ _ _ _ _ _ _ _ c.loop-round.invariant c.in-Some.ensures.steps c.moved_of_two-moved.ensures.before
-    c.moved_of_two-moved.ensures.after c.moved_of_two-moved.ensures.before_most c.moved_of_two-moved.ensures.after_most
+    c.moved_of_two-moved.ensures.after c.moved_of_two-moved.ensures.before_limit c.moved_of_two-moved.ensures.after_limit
 
 pub returns-clause-balance : goal.returns-clause-balance
 returns-clause-balance c =

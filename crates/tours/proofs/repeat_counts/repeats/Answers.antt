@@ -13,5 +13,5 @@ returns-clause-value c =
     sum_where_all (round_count c.args.schedule.now.teams - 1) (has c.below-firsts.result) (repeats_after c.args.schedule.now)
     (λ r in_r. c.below-firsts.ensures.members r ∙ lt-ltb r _ (omega arith))
 
-pub returns-clause-most : goal.returns-clause-most
-returns-clause-most c = search rules
+pub returns-clause-limit : goal.returns-clause-limit
+returns-clause-limit c = search rules

@@ -8,5 +8,5 @@ abbrev pub invariant-loop-team : goal.invariant-loop-team
 invariant-loop-team l = record {
   value : l.total ≡ sum_of_pairs l.team (λ low high.
       if meets l.schedule high low l.round && meets l.schedule high low (l.round + 1) then 1 else 0);
-  most : l.total ≤ l.team;
+  limit : l.total ≤ l.team;
 }

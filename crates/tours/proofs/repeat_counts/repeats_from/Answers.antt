@@ -13,7 +13,7 @@ repeats_after-total-requires c =
 pub loop-round-preserved : goal.loop-round-preserved
 loop-round-preserved c =
     sum_without_more _ _ _ _ _ _ _ _ _ c.loop-round.invariant c.in-Some.ensures.steps c.repeats_after-total.ensures.value
-    c.repeats_after-total.ensures.most
+    c.repeats_after-total.ensures.limit
 
 pub returns-clause-value : goal.returns-clause-value
 returns-clause-value c = sum_without_all _ _ _ _ _ _ _ c.loop-round.invariant c.in-None.ensures.steps.0 (λ k below. refl)

@@ -15,5 +15,5 @@ returns-clause-value c =
     (λ r. has c.touched.inside.rounds r || has c.touched.inside.rounds (r + 1))
     (repeats_after c.args.schedule.now) (repeats_after c.args.schedule.now) c.rounds_next_to-firsts.ensures.members (λ r in_r touched. refl))
 
-pub returns-clause-most : goal.returns-clause-most
-returns-clause-most c = search rules
+pub returns-clause-limit : goal.returns-clause-limit
+returns-clause-limit c = search rules

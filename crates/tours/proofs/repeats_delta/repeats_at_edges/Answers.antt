@@ -12,7 +12,7 @@ repeats_at_edge-repeats-requires-clause-next c =
 pub loop-round-preserved : goal.loop-round-preserved
 loop-round-preserved c =
     totals_more _ _ _ _ _ _ _ _ _ _ _ _ c.loop-round.invariant c.in-Some.ensures.steps c.repeats_at_edge-repeats.ensures.before
-    c.repeats_at_edge-repeats.ensures.after c.repeats_at_edge-repeats.ensures.before_most c.repeats_at_edge-repeats.ensures.after_most
+    c.repeats_at_edge-repeats.ensures.after c.repeats_at_edge-repeats.ensures.before_limit c.repeats_at_edge-repeats.ensures.after_limit
 
 pub returns : goal.returns
 returns c = totals_ended _ _ _ _ _ _ _ _ c.loop-round.invariant c.in-None.ensures.steps.0

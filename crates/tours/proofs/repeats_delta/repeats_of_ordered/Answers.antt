@@ -12,7 +12,7 @@ repeats_of_team-repeats-requires-clause-team c =
 pub loop-team-preserved : goal.loop-team-preserved
 loop-team-preserved c =
     totals_more _ _ _ _ _ _ _ _ _ _ _ _ c.loop-team.invariant c.in-Some.ensures.steps c.repeats_of_team-repeats.ensures.before
-    c.repeats_of_team-repeats.ensures.after c.repeats_of_team-repeats.ensures.before_most c.repeats_of_team-repeats.ensures.after_most
+    c.repeats_of_team-repeats.ensures.after c.repeats_of_team-repeats.ensures.before_limit c.repeats_of_team-repeats.ensures.after_limit
 
 pub returns : goal.returns
 returns c = totals_ended _ _ _ _ _ _ _ _ c.loop-team.invariant c.in-None.ensures.steps.0

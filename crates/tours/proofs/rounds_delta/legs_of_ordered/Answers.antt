@@ -12,7 +12,7 @@ changed_legs-legs-requires-clause-team c =
 pub loop-team-preserved : goal.loop-team-preserved
 loop-team-preserved c =
     totals_more _ _ _ _ _ _ _ _ _ _ _ _ c.loop-team.invariant c.in-Some.ensures.steps c.changed_legs-legs.ensures.before
-    c.changed_legs-legs.ensures.after c.changed_legs-legs.ensures.before_most c.changed_legs-legs.ensures.after_most
+    c.changed_legs-legs.ensures.after c.changed_legs-legs.ensures.before_limit c.changed_legs-legs.ensures.after_limit
 
 pub returns : goal.returns
 returns c = totals_ended _ _ _ _ _ _ _ _ c.loop-team.invariant c.in-None.ensures.steps.0

@@ -12,5 +12,5 @@ returns-clause-value c =
     (has c.args.set) (has c.args.rounds)
     c.teams_in-among.ensures.members c.starts_meeting-starts.ensures.members
 
-pub returns-clause-most : goal.returns-clause-most
-returns-clause-most c = search rules
+pub returns-clause-limit : goal.returns-clause-limit
+returns-clause-limit c = search rules

@@ -11,5 +11,5 @@ returns-clause-value c =
     (λ t in_t. c.below-all.ensures.members t ∙ lt-ltb t _ (omega arith))
     (λ f in_f. c.below-starts.ensures.members f ∙ lt-ltb f _ (omega arith)))
 
-pub returns-clause-most : goal.returns-clause-most
-returns-clause-most c = search rules
+pub returns-clause-limit : goal.returns-clause-limit
+returns-clause-limit c = search rules

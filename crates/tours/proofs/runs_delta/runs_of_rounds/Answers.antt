@@ -15,7 +15,7 @@ turned_runs-runs-requires-clause-team c =
 pub loop-team-preserved : goal.loop-team-preserved
 loop-team-preserved c =
     totals_more _ _ _ _ _ _ _ _ _ _ _ _ c.loop-team.invariant c.in-Some.ensures.steps c.turned_runs-runs.ensures.before
-    c.turned_runs-runs.ensures.after c.turned_runs-runs.ensures.before_most c.turned_runs-runs.ensures.after_most
+    c.turned_runs-runs.ensures.after c.turned_runs-runs.ensures.before_limit c.turned_runs-runs.ensures.after_limit
 
 pub returns-clause-balance : goal.returns-clause-balance
 returns-clause-balance c =

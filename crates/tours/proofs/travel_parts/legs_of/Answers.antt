@@ -11,7 +11,7 @@ leg-total-requires-clause-team c = lowest_below _ _ _ _ c.loop-team.invariant.be
 pub loop-team-preserved : goal.loop-team-preserved
 loop-team-preserved c =
     sum_without_more _ _ _ _ _ _ _ _ _ c.loop-team.invariant c.in-Some.ensures.steps c.leg-total.ensures.value
-    c.leg-total.ensures.most
+    c.leg-total.ensures.limit
 
 pub returns-clause-value : goal.returns-clause-value
 returns-clause-value c = sum_without_all _ _ _ _ _ _ _ c.loop-team.invariant c.in-None.ensures.steps.0 (λ k below. refl)

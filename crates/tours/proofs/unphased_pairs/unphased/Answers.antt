@@ -7,5 +7,5 @@ returns-clause-value c =
     c.unphased_with.ensures.value ∙
     unphased_of_all c.args.schedule.now c.below-all.result (λ t. c.below-all.ensures.members t ∙ ap (nat_lt t) c.teams.ensures.number)
 
-pub returns-clause-most : goal.returns-clause-most
-returns-clause-most c = search rules
+pub returns-clause-limit : goal.returns-clause-limit
+returns-clause-limit c = search rules

@@ -4,5 +4,5 @@ use Rattle.tours.proofs.unphased_pairs.unphased_part.Goals as goal
 pub returns-clause-value : goal.returns-clause-value
 returns-clause-value c = search rules
 
-pub returns-clause-most : goal.returns-clause-most
-returns-clause-most c = search rules
+pub returns-clause-limit : goal.returns-clause-limit
+returns-clause-limit c = search rules

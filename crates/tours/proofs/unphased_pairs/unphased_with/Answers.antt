@@ -16,5 +16,5 @@ loop-team-preserved c =
     c.lower_partners-lower.result c.loop-team.team c.lower_partners-lower.ensures.members in
     record {
       value = omega (arith, c.loop-team.invariant.value, sum_below_more c.loop-team.team pairs, more);
-      most = omega (arith, c.loop-team.invariant.most, c.unphased_of-total.ensures.most);
+      limit = omega (arith, c.loop-team.invariant.limit, c.unphased_of-total.ensures.limit);
     }

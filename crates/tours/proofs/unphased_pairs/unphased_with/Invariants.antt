@@ -9,5 +9,5 @@ use Rattle.tours.proofs.unphased_pairs.unphased_with.Given as goal
 abbrev pub invariant-loop-team : goal.invariant-loop-team
 invariant-loop-team l = record {
   value : l.total ≡ sum_of_pairs l.team (λ i j. if (has l.teams i || has l.teams j) && is_unphased l.schedule i j then 1 else 0);
-  most : l.total ≤ l.team * max_teams;
+  limit : l.total ≤ l.team * max_teams;
 }

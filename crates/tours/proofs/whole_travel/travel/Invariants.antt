@@ -7,5 +7,5 @@ use Rattle.tours.proofs.whole_travel.travel.Given as goal
 abbrev pub invariant-loop-team : goal.invariant-loop-team
 invariant-loop-team l = record {
   value : l.total ≡ sum_below l.team (travel_of l.league l.schedule);
-  most : l.total ≤ l.team * ((max_rounds + 1) * max_distance);
+  limit : l.total ≤ l.team * ((max_rounds + 1) * max_distance);
 }

@@ -8,5 +8,5 @@ pub returns-clause-value : goal.returns-clause-value
 unfolding travel_of
 returns-clause-value c = grind (arith, common_steps, sums)
 
-pub returns-clause-most : goal.returns-clause-most
-returns-clause-most c = search rules
+pub returns-clause-limit : goal.returns-clause-limit
+returns-clause-limit c = search rules

@@ -7,5 +7,5 @@ use Rattle.tours.proofs.whole_travel.travel_of.Given as goal
 abbrev pub invariant-loop-index : goal.invariant-loop-index
 invariant-loop-index l = record {
   value : l.total ≡ sum_below l.index (leg l.league l.schedule l.team);
-  most : l.total ≤ l.index * max_distance;
+  limit : l.total ≤ l.index * max_distance;
 }

@@ -36,10 +36,10 @@ returns-in_default-clause-step c =
     let small = score_after c.args.league.now c.args.self.now.schedule c.exchange-exchange.result c.requires.kept.league_is
     (sym c.requires.kept.same_size) in
     record {
-      reason = shift_judged c.args.proposal _ after (cost_of c.args.league.now after) _ _ _ (Err c.limit_of-most.result.above)
+      reason = shift_judged c.args.proposal _ after (cost_of c.args.league.now after) _ _ _ (Err c.limit_of-limit.result.above)
           c.requires.kept c.check_move.ensures c.in_ok-check_move.was moves c.if-would_be_moved.false refl
           (sym c.exchange-exchange.ensures.is_move.is) refl c.score-before.ensures refl
-          (sym (c.limit_of-most.ensures.above _ (rw c.hard_weight.ensures.value at c.in_default.ensures.value) (omega (arith, small))));
+          (sym (c.limit_of-limit.ensures.above _ (rw c.hard_weight.ensures.value at c.in_default.ensures.value) (omega (arith, small))));
       same = ap (λ (g : Games). record (kept_of c.args.self.now) { games = g }) c.in_default.ensures.schedule;
     }
 

@@ -15,5 +15,5 @@ loop-entry-preserved c = record {
   items = c.take_effect.ensures.items ∙
       effective-next _ c.args.history.now c.loop-entry.entry-index _ c.loop-entry-test.true c.loop-entry.invariant.items;
   capacity = c.take_effect.ensures.capacity ∙ c.loop-entry.invariant.capacity;
-  few = omega (arith, c.take_effect.ensures.most, c.loop-entry.invariant.few);
+  few = omega (arith, c.take_effect.ensures.limit, c.loop-entry.invariant.few);
 }

@@ -20,7 +20,7 @@ legs_of_visit-legs-requires-clause-in_set c =
 pub loop-round-preserved : goal.loop-round-preserved
 loop-round-preserved c =
     totals_more _ _ _ _ _ _ _ _ _ _ _ _ c.loop-round.invariant c.in-Some.ensures.steps c.legs_of_visit-legs.ensures.before
-    c.legs_of_visit-legs.ensures.after c.legs_of_visit-legs.ensures.before_most c.legs_of_visit-legs.ensures.after_most
+    c.legs_of_visit-legs.ensures.after c.legs_of_visit-legs.ensures.before_limit c.legs_of_visit-legs.ensures.after_limit
 
 pub returns : goal.returns
 returns c = totals_ended _ _ _ _ _ _ _ _ c.loop-round.invariant c.in-None.ensures.steps.0

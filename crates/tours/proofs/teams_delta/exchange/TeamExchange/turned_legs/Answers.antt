@@ -12,7 +12,7 @@ turned_leg-legs-requires-clause-turn c =
 pub loop-round-preserved : goal.loop-round-preserved
 loop-round-preserved c =
     totals_more _ _ _ _ _ _ _ _ _ _ _ _ c.loop-round.invariant c.in-Some.ensures.steps c.turned_leg-legs.ensures.before
-    c.turned_leg-legs.ensures.after c.turned_leg-legs.ensures.before_most c.turned_leg-legs.ensures.after_most
+    c.turned_leg-legs.ensures.after c.turned_leg-legs.ensures.before_limit c.turned_leg-legs.ensures.after_limit
 
 pub returns : goal.returns
 returns c = totals_ended _ _ _ _ _ _ _ _ c.loop-round.invariant c.in-None.ensures.steps.0
