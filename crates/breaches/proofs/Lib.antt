@@ -1,6 +1,5 @@
 pub mod AddingUp
 pub mod Largest
-pub mod ListedGames
 pub mod HomeGames
 pub mod Counting
 pub mod Amounts

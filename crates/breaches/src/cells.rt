@@ -127,7 +127,7 @@ fn is_break(schedule: &Schedule, side: Side, team: u8, round: u8) -> bool
 }
 
 /// Whether the team's game in the round is on the list.
-#[tactic(auto, using(crate::proofs::ListedGames::IsPair_game))]
+#[tactic(auto, using(robinx::proofs::ForCallers::IsPair_game))]
 fn is_listed(schedule: &Schedule, games: &GameList, team: u8, round: u8) -> bool
     requires games { AllByRecursion (IsGameFor schedule.now.teams) games.now }
     requires team { team < schedule.now.teams }

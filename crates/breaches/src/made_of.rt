@@ -187,7 +187,7 @@ fn write_listed<W: Sink>(
     }
 }
 
-#[tactic(auto, using(crate::proofs::ListedGames::IsPair_game))]
+#[tactic(auto, using(robinx::proofs::ForCallers::IsPair_game))]
 fn write_list<W: Sink>(
     out: &mut BufferedSink<'_, W>,
     schedule: &Schedule,

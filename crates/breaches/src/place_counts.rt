@@ -96,7 +96,7 @@ fn count_together(schedule: &Schedule, body: &RuleBody, place: Place) -> u32
 }
 
 /// How many games of the list are in the slots.
-#[tactic(auto, using(crate::proofs::ListedGames::IsPair_game), unfolding(robinx::specs::Deviations::listed_games_in))]
+#[tactic(auto, using(robinx::proofs::ForCallers::IsPair_game), unfolding(robinx::specs::Deviations::listed_games_in))]
 pub(crate) fn count_listed(schedule: &Schedule, games: &GameList, slots: SlotSet) -> u32
     requires { AllByRecursion (IsGameFor schedule.now.teams) games.now }
     ensures value { result ≡ listed_games_in schedule.now (has slots) games.now }

@@ -56,7 +56,6 @@ pub(crate) fn predicted_within(
 }
 
 /// The repeats that an exchange alters, before it and after it. None is counted if they are free.
-#[inline]
 fn repeats_delta(schedule: &Schedule, league: &League, exchange: &Exchange) -> CountDelta
     requires { IsExchange schedule.now exchange.now }
     ensures balance { unless_free league.now (repeats (exchanged_by schedule.now exchange.now)) + result.before ≡

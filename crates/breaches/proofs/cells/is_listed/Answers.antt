@@ -1,7 +1,7 @@
 use Rattle.std.proofs.Common.{◌&&◌, ◌==◌, sym, ◌∙◌}
 use Rattle.league.specs.declared.rule.Pairing.{Pairing}
 use Rattle.fixtures.specs.Games.{cell, round_of}
-use Rattle.breaches.proofs.ListedGames.{list_any_found, list_any_not_yet}
+use Rattle.robinx.proofs.ForCallers.{list_any_found, list_any_not_yet}
 use Rattle.breaches.specs.Cells.{are_these}
 use Rattle.breaches.proofs.cells.is_listed.Goals as goal
 

@@ -3,7 +3,7 @@ use Rattle.std.proofs.lemmas.Grind.{common_steps}
 use Rattle.league.specs.Sets.{has}
 use Rattle.league.specs.declared.rule.Pairing.{Pairing}
 use Rattle.fixtures.specs.Games.{round_of}
-use Rattle.breaches.proofs.ListedGames.{count_by_more}
+use Rattle.robinx.proofs.ForCallers.{count_by_more}
 use Rattle.breaches.proofs.place_counts.count_listed.Goals as goal
 
 pub loop-i-preserved : goal.loop-i-preserved
