@@ -80,7 +80,7 @@ returns-in_err-write_rules g c =
 
 pub write_rules-requires-clause-few : goal.write_rules-requires-clause-few
 write_rules-requires-clause-few g c =
-    omega (arith, c.runs_over-runs.ensures.most, c.counted_repeats-repeats.ensures.most, c.halves-halves.ensures.most)
+    omega (arith, c.runs_over-runs.ensures.limit, c.counted_repeats-repeats.ensures.limit, c.halves-halves.ensures.most)
 
 pub returns : goal.returns
 unfolding least_hard_line
