@@ -5,7 +5,7 @@ ghost use Rattle.std.specs.Prelude.{◌≡◌, ◌≤◌};
 ghost use Rattle.costs.specs.Evaluators.{IsEvaluatorAt};
 ghost use Rattle.league.specs.League.{teams};
 ghost use Rattle.league.specs.Limits.{max_teams};
-ghost use Rattle.search.specs.within.Steps.{IsKnown};
+ghost use Rattle.search.specs.within.Steps.{IsCopyCost};
 
 use crate::kind::Kind;
 use crate::plan::Plan;
@@ -132,10 +132,10 @@ fn try_move(
 ) -> TryEnd
     requires same_size { teams league.now ≡ schedule.old.teams }
     requires evaluator { IsEvaluatorAt league.now schedule.old evaluator.old }
-    requires known { IsKnown league.now schedule.old known.old.cost known.old.score }
+    requires known { IsCopyCost league.now schedule.old known.old.cost known.old.score }
     ensures evaluator { IsEvaluatorAt league.now schedule.new evaluator.new }
     ensures same_size { schedule.new.teams ≡ schedule.old.teams }
-    ensures known { IsKnown league.now schedule.new known.new.cost known.new.score }
+    ensures known { IsCopyCost league.now schedule.new known.new.cost known.new.score }
 {
     let Trial { mv, slack } = trial;
     if check(schedule, mv).is_err() {
