@@ -105,7 +105,7 @@ annealed weights leg chain blocks going now was within is some may_end =
         best = is.best;
       };
       weight_least = rw is.weight within.least;
-      weight_most = rw is.weight within.most;
+      weight_limit = rw is.weight within.most;
     }
 
 -- all blocks were taken

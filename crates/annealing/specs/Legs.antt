@@ -74,4 +74,4 @@ pub record IsAnnealed (weights : WeightCourse) (leg : Leg) (old : Chain) (now : 
   pub never_worse : least_of old.board.league now.chain.board.history ≤ least_of old.board.league old.board.history
   pub figures : AreFigures leg now.chain.board now.end
   pub weight_least : weights.least ≤ now.chain.weight
-  pub weight_most : now.chain.weight ≤ weights.most
+  pub weight_limit : now.chain.weight ≤ weights.most

@@ -22,7 +22,7 @@ use std::alloc::Global;
 const MAX_STEPS: u64 = 1_000_000;
 
 /// The most millions of steps of an improvement.
-const MAX_EFFORT: u64 = 1_000_000;
+const MAX_MILLIONS: u64 = 1_000_000;
 
 /// The most seconds of an improvement: eleven days and a half.
 const MAX_SECONDS: u64 = 1_000_000;
@@ -75,7 +75,7 @@ pub(crate) const EFFORT: NumberArg = NumberArg {
     name: "effort",
     value_name: "E",
     least: 1,
-    most: MAX_EFFORT,
+    most: MAX_MILLIONS,
     default: Some("10"),
     help: EFFORT_HELP,
 };

@@ -2,7 +2,7 @@
 
 ghost use Rattle.std.specs.Prelude.{◌≤◌, IfSome, option_map};
 ghost use Rattle.league.specs.Limits.{max_weight};
-ghost use Rattle.policy.specs.Limits.{most_effort};
+ghost use Rattle.policy.specs.Limits.{max_effort};
 ghost use Rattle.commands.specs.Improve.{EndsImprove, EndsImproveOn};
 ghost use Rattle.commands.specs.Outcome.{value_of, without_value};
 
@@ -30,7 +30,7 @@ pub fn improve<T: Threads + Wait + Sync, G: Gate + Sync, R: Source + Drop, W: Si
     plan: ImprovePlan,
 ) -> Result<Verdict, ProgramFault>
     requires least { 1 ≤ plan.effort }
-    requires most { plan.effort ≤ most_effort }
+    requires most { plan.effort ≤ max_effort }
     ensures { (after : R)
         × EndsImprove R.left R.tally W.held W.tally plan (value_of result)
         source after sink.old sink.new (without_value result) }
@@ -46,7 +46,7 @@ pub fn improve_from<T: Threads + Wait + Sync, G: Gate + Sync, R: Source, W: Sink
     plan: ImprovePlan,
 ) -> Result<Verdict, ProgramFault>
     requires least { 1 ≤ plan.effort }
-    requires most { plan.effort ≤ most_effort }
+    requires most { plan.effort ≤ max_effort }
     ensures { EndsImprove R.left R.tally W.held W.tally plan (value_of result)
         source.old source.new sink.old sink.new (without_value result) }
 {
@@ -65,7 +65,7 @@ pub fn improve_on<T: Threads + Wait + Sync, G: Gate + Sync, W: Sink, V: Watcher<
     watcher: V,
 ) -> Result<Verdict, ProgramFault>
     requires least { 1 ≤ plan.effort }
-    requires most { plan.effort ≤ most_effort }
+    requires most { plan.effort ≤ max_effort }
     requires near { IfSome beginning (λ b. b.now.near ≤ max_weight) }
     ensures { EndsImproveOn W.held W.tally plan (value_of result) league.now (option_map (λ b. b.now) beginning.entry)
         sink.old sink.new (without_value result) }

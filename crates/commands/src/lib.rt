@@ -23,7 +23,7 @@ pub use improve_command::{improve, improve_from, improve_on};
 pub use improvement::{ImprovePlan, LegEnded, NoWatcher, Watcher, Written};
 pub use league_command::{league, league_from, league_on};
 pub use play_command::{play, play_from, play_on};
-pub use policy::MOST_EFFORT;
+pub use policy::MAX_EFFORT;
 pub use progress::{Extent, ProgressLine};
 pub use report_command::{report, report_from, report_on};
 pub use report_formats::{CsvForm, Format, Separator};

@@ -16,7 +16,7 @@ use Rattle.improvement.specs.declared.field.Entrant.{Entrant}
 use Rattle.improvement.specs.declared.legs.LegState.{LegState}
 use Rattle.improvement.specs.declared.legs.LegState.TheVariants.{InThread, Over}
 use Rattle.improvement.specs.declared.legs.RunningLeg.{RunningLeg}
-use Rattle.improvement.specs.declared.legs.Turn.{Turn}
+use Rattle.improvement.specs.declared.legs.Assignment.{Assignment}
 use Rattle.improvement.specs.declared.legs.WaitingLeg.{WaitingLeg}
 use Rattle.improvement.specs.declared.line.Line.{Line}
 use Rattle.improvement.specs.declared.stage.Beginning.{Beginning}
@@ -24,7 +24,7 @@ use Rattle.improvement.specs.within.Fields.{StageData, after_bout, at_best, begu
 use Rattle.improvement.specs.within.Fields.{passing, passing_by, ranked}
 use Rattle.improvement.specs.Legs.{CanBegin, LegRun}
 use Rattle.improvement.specs.within.Lines.{CanEnd, IsAtBeginning, IsEntrant, IsLine, IsRunning, IsStage, IsState, IsWaiting, MayBegin, anew}
-use Rattle.improvement.specs.within.Lines.{left_in, steps_left, turn_of_running, turn_of_waiting, turn_steps, turns_of, waiting_for}
+use Rattle.improvement.specs.within.Lines.{left_in, steps_left, assignment_of_running, assignment_of_waiting, assigned_steps, assignments_of, waiting_for}
 use Rattle.policy.specs.declared.legs.Leg.{Leg}
 use Rattle.policy.specs.declared.waves.Source.{Source}
 use Rattle.policy.specs.declared.waves.Source.TheVariants.{Start, Own, Copies}
@@ -47,15 +47,15 @@ state_weaker P Q weaker (InThread handle) is = λ now annealed. weaker now (is n
 state_weaker P Q weaker (Over (Ok now)) is = weaker now is
 state_weaker P Q weaker (Over (Err fault)) is = tt
 
-pub state_of : (start : Book) (legs : List LegRun) (turn : Turn) (weights : WeightCourse) (old : Chain) (board : Option Book) (state : LegState) →
-    MayBegin start legs turn.chain board → old.board ≡ unwrap_or board (anew start) →
-    IsState (IsAnnealed weights turn.leg old) state → IsState (CanEnd start legs turn) state
-state_of start legs turn weights old board state may same is =
-    state_weaker (IsAnnealed weights turn.leg old) (CanEnd start legs turn)
+pub state_of : (start : Book) (legs : List LegRun) (assignment : Assignment) (weights : WeightCourse) (old : Chain) (board : Option Book) (state : LegState) →
+    MayBegin start legs assignment.chain board → old.board ≡ unwrap_or board (anew start) →
+    IsState (IsAnnealed weights assignment.leg old) state → IsState (CanEnd start legs assignment) state
+state_of start legs assignment weights old board state may same is =
+    state_weaker (IsAnnealed weights assignment.leg old) (CanEnd start legs assignment)
     (λ now annealed. record {
       weights = weights;
       old = old;
-      begins = subst (IsAtBeginning start legs turn.chain) (sym same) (at_beginning start legs turn.chain board may);
+      begins = subst (IsAtBeginning start legs assignment.chain) (sym same) (at_beginning start legs assignment.chain board may);
       annealed = annealed;
     }) state is
 
@@ -145,19 +145,19 @@ bout_lined {start} {legs} line new stream bout weight leg b is leg_is same stage
     (bout_begins start legs line.stage weight chain (chain_is line.stage.wave.source line.stage.before is.stage.before)))
     waiting running
 
-pub turns_more : (line new : Line) (w : WaitingLeg) → new.waiting.items ≡ line.waiting.items ++ w ∷ [] → new.running ≡ line.running →
-    turns_of new ≡ turns_of line ++ w.turn ∷ []
-turns_more line new w waiting running =
-    rw (running, waiting, map-append turn_of_waiting line.waiting.items (w ∷ []))
-    (sym (append_assoc (map turn_of_running line.running.items) (map turn_of_waiting line.waiting.items) (w.turn ∷ [])))
+pub assignments_more : (line new : Line) (w : WaitingLeg) → new.waiting.items ≡ line.waiting.items ++ w ∷ [] → new.running ≡ line.running →
+    assignments_of new ≡ assignments_of line ++ w.assignment ∷ []
+assignments_more line new w waiting running =
+    rw (running, waiting, map-append assignment_of_waiting line.waiting.items (w ∷ []))
+    (sym (append_assoc (map assignment_of_running line.running.items) (map assignment_of_waiting line.waiting.items) (w.assignment ∷ [])))
 
 -- a leg that waits has its steps left
 pub left_more : (line new : Line) (w : WaitingLeg) → new.waiting.items ≡ line.waiting.items ++ w ∷ [] → new.running ≡ line.running →
-    left_in new ≡ steps_left new.series + (sum_by turn_steps (turns_of line) + turn_steps w.turn)
+    left_in new ≡ steps_left new.series + (sum_by assigned_steps (assignments_of line) + assigned_steps w.assignment)
 left_more line new w waiting running =
-    let added : sum_by turn_steps (turns_of new) ≡ sum_by turn_steps (turns_of line) + sum_by turn_steps (w.turn ∷ []) =
-    ap (sum_by turn_steps) (turns_more line new w waiting running) ∙ sum_by-append turn_steps (turns_of line) (w.turn ∷ []) in
-    omega (arith, added, sum_by-cons turn_steps w.turn [])
+    let added : sum_by assigned_steps (assignments_of new) ≡ sum_by assigned_steps (assignments_of line) + sum_by assigned_steps (w.assignment ∷ []) =
+    ap (sum_by assigned_steps) (assignments_more line new w waiting running) ∙ sum_by-append assigned_steps (assignments_of line) (w.assignment ∷ []) in
+    omega (arith, added, sum_by-cons assigned_steps w.assignment [])
 
 -- the first one is taken out
 pub all_front : {X : Type 0} (P : X → Type 0) (old new : List X) (first : Option X) → old ≡ option_to_list first ++ new → All P old →
@@ -165,31 +165,31 @@ pub all_front : {X : Type 0} (P : X → Type 0) (old new : List X) (first : Opti
 all_front P old new None same all = (subst (All P) same all, tt)
 all_front P old new (Some x) same all = (All-rest P x new old same all, All-head P x new (subst (All P) same all))
 
--- the turns of the line once so many legs are left that run
-abbrev turns_with : Line → List RunningLeg → List Turn
-turns_with line running = map turn_of_running running ++ map turn_of_waiting line.waiting.items
+-- the assignments of the line once so many legs are left that run
+abbrev assignments_with : Line → List RunningLeg → List Assignment
+assignments_with line running = map assignment_of_running running ++ map assignment_of_waiting line.waiting.items
 
 front_is : (line : Line) (rest : List RunningLeg) (first : Option RunningLeg) → line.running.items ≡ option_to_list first ++ rest →
-    IfSome first (λ leg. turns_of line ≡ leg.turn ∷ turns_with line rest)
+    IfSome first (λ leg. assignments_of line ≡ leg.assignment ∷ assignments_with line rest)
 front_is line rest None same = tt
 front_is line rest (Some leg) same = rw same refl
 
 pub front_more : (old full line : Line) (rest : List RunningLeg) (first : Option RunningLeg) →
-    (more : List Turn) × (turns_of full ≡ turns_of old ++ more) → turns_of line ≡ turns_of full →
+    (more : List Assignment) × (assignments_of full ≡ assignments_of old ++ more) → assignments_of line ≡ assignments_of full →
     line.running.items ≡ option_to_list first ++ rest →
-    IfSome first (λ leg. (more : List Turn) × (turns_of old ++ more ≡ leg.turn ∷ turns_with line rest))
-front_more old full line rest None turns same taken = tt
-front_more old full line rest (Some leg) turns same taken =
-    (turns.0, sym turns.1 ∙ sym same ∙ front_is line rest (Some leg) taken)
+    IfSome first (λ leg. (more : List Assignment) × (assignments_of old ++ more ≡ leg.assignment ∷ assignments_with line rest))
+front_more old full line rest None assignments same taken = tt
+front_more old full line rest (Some leg) assignments same taken =
+    (assignments.0, sym assignments.1 ∙ sym same ∙ front_is line rest (Some leg) taken)
 
 pub front_left : (old full line : Line) (rest : List RunningLeg) (first : Option RunningLeg) → left_in full ≡ left_in old →
-    turns_of line ≡ turns_of full → line.series ≡ full.series → line.running.items ≡ option_to_list first ++ rest →
-    IfSome first (λ leg. turn_steps leg.turn + (steps_left line.series + sum_by turn_steps (turns_with line rest)) ≡ left_in old)
+    assignments_of line ≡ assignments_of full → line.series ≡ full.series → line.running.items ≡ option_to_list first ++ rest →
+    IfSome first (λ leg. assigned_steps leg.assignment + (steps_left line.series + sum_by assigned_steps (assignments_with line rest)) ≡ left_in old)
 front_left old full line rest None left same series taken = tt
 front_left old full line rest (Some leg) left same series taken =
-    let turns : sum_by turn_steps (turns_of full) ≡ turn_steps leg.turn + sum_by turn_steps (turns_with line rest) =
-    ap (sum_by turn_steps) (sym same ∙ front_is line rest (Some leg) taken) ∙ sum_by-cons turn_steps leg.turn (turns_with line rest) in
-    omega (arith, left, turns, ap steps_left series)
+    let assignments : sum_by assigned_steps (assignments_of full) ≡ assigned_steps leg.assignment + sum_by assigned_steps (assignments_with line rest) =
+    ap (sum_by assigned_steps) (sym same ∙ front_is line rest (Some leg) taken) ∙ sum_by-cons assigned_steps leg.assignment (assignments_with line rest) in
+    omega (arith, left, assignments, ap steps_left series)
 
 -- a leg that waited runs
 pub line_run : {start : Book} {legs : List LegRun} (line new : Line) (w : WaitingLeg) (r : RunningLeg) → IsLine start legs line →
@@ -204,11 +204,11 @@ line_run {start} {legs} line new w r is waiting running stage runs = record {
 }
 
 pub turns_run : (line : Line) (running : List RunningLeg) (waiting : List WaitingLeg) (w : WaitingLeg) (r : RunningLeg) →
-    line.waiting.items ≡ w ∷ waiting → running ≡ line.running.items ++ r ∷ [] → r.turn ≡ w.turn →
-    map turn_of_running running ++ map turn_of_waiting waiting ≡ turns_of line
-turns_run line running waiting w r left more turn =
-    rw (more, left, map-append turn_of_running line.running.items (r ∷ []), turn)
-    (append_assoc (map turn_of_running line.running.items) (w.turn ∷ []) (map turn_of_waiting waiting))
+    line.waiting.items ≡ w ∷ waiting → running ≡ line.running.items ++ r ∷ [] → r.assignment ≡ w.assignment →
+    map assignment_of_running running ++ map assignment_of_waiting waiting ≡ assignments_of line
+turns_run line running waiting w r left more assignment =
+    rw (more, left, map-append assignment_of_running line.running.items (r ∷ []), assignment)
+    (append_assoc (map assignment_of_running line.running.items) (w.assignment ∷ []) (map assignment_of_waiting waiting))
 
 pub on_ok : {T E P Q : Type 0} (r : Result T E) → (P → Q) → OnOk r P → OnOk r Q
 on_ok (Ok value) f holds = f holds

@@ -18,7 +18,7 @@ use Rattle.annealing.specs.Legs.{AreFigures}
 use Rattle.improvement.specs.declared.field.Entrant.{Entrant}
 use Rattle.improvement.specs.declared.leg_text.ReportedLeg.{ReportedLeg}
 use Rattle.improvement.specs.declared.legs.RunningLeg.{RunningLeg}
-use Rattle.improvement.specs.declared.legs.Turn.{Turn}
+use Rattle.improvement.specs.declared.legs.Assignment.{Assignment}
 use Rattle.improvement.specs.declared.legs.WaitingLeg.{WaitingLeg}
 use Rattle.improvement.specs.declared.line.Line.{Line}
 use Rattle.improvement.specs.declared.plan.ImproveFault.{ImproveFault}
@@ -31,7 +31,7 @@ use Rattle.improvement.specs.Legs.{AreLegs, IsLegAfter, LegRun, lead_of, least_i
 use Rattle.improvement.specs.within.Legs.{lead_after}
 use Rattle.improvement.specs.LegText.{ending, improve_text, leg_text, legs_text, reported_as}
 use Rattle.improvement.specs.within.Lines.{CanEnd, IsAtBeginning, IsEntrant, IsLine, IsRunning, IsStage, IsWaiting, MayBegin, anew, left_in}
-use Rattle.improvement.specs.within.Lines.{running_steps, turn_steps}
+use Rattle.improvement.specs.within.Lines.{running_steps, assigned_steps}
 use Rattle.improvement.specs.within.UnderWay.{EndsBy, HasReported, HasRunAll, HasSent, HasStopped, IsUnderWay, Sends}
 use Rattle.improvement.proofs.Lines.{state_weaker}
 
@@ -49,18 +49,18 @@ module _ (start : Book) (legs : List LegRun) (run : LegRun) where
   may_later chain (Some board) may = begins_later chain board may
 
   waiting_later : (w : WaitingLeg) → IsWaiting start legs w → IsWaiting start (run ∷ legs) w
-  waiting_later w is = record { leg = is.leg; begins = may_later w.turn.chain w.board is.begins }
+  waiting_later w is = record { leg = is.leg; begins = may_later w.assignment.chain w.board is.begins }
 
-  end_later : (turn : Turn) (now : Annealed) → CanEnd start legs turn now → CanEnd start (run ∷ legs) turn now
-  end_later turn now e = record {
+  end_later : (assignment : Assignment) (now : Annealed) → CanEnd start legs assignment now → CanEnd start (run ∷ legs) assignment now
+  end_later assignment now e = record {
     weights = e.weights;
     old = e.old;
-    begins = begins_later turn.chain e.old.board e.begins;
+    begins = begins_later assignment.chain e.old.board e.begins;
     annealed = e.annealed;
   }
 
   running_later : (r : RunningLeg) → IsRunning start legs r → IsRunning start (run ∷ legs) r
-  running_later r is = state_weaker (CanEnd start legs r.turn) (CanEnd start (run ∷ legs) r.turn) (end_later r.turn) r.state is
+  running_later r is = state_weaker (CanEnd start legs r.assignment) (CanEnd start (run ∷ legs) r.assignment) (end_later r.assignment) r.state is
 
   stage_later : (s : StageData) → IsStage start legs s → IsStage start (run ∷ legs) s
   stage_later s is = record {
@@ -77,17 +77,17 @@ module _ (start : Book) (legs : List LegRun) (run : LegRun) where
 
 -- ---- a leg that has ended
 
-abbrev pub run_of : Turn → Annealed → LegRun
-run_of turn now = record { chain = turn.chain; leg = turn.leg; end = now.end; history = now.chain.board.history }
+abbrev pub run_of : Assignment → Annealed → LegRun
+run_of assignment now = record { chain = assignment.chain; leg = assignment.leg; end = now.end; history = now.chain.board.history }
 
-module _ {start : Book} {legs : List LegRun} (turn : Turn) (now : Annealed) (e : CanEnd start legs turn now) where
+module _ {start : Book} {legs : List LegRun} (assignment : Assignment) (now : Annealed) (e : CanEnd start legs assignment now) where
   pub league_is : now.chain.board.league ≡ start.league
   league_is = e.annealed.board.league ∙ e.begins.alike.league_is
 
   pub room_is : now.chain.board.room ≡ start.room
   room_is = e.annealed.board.room ∙ e.begins.alike.room_is
 
-  pub leg_is : IsLegAfter start.league start.room legs (run_of turn now)
+  pub leg_is : IsLegAfter start.league start.room legs (run_of assignment now)
   leg_is =
       let h = now.chain.board.history in
       record {
@@ -97,10 +97,10 @@ module _ {start : Book} {legs : List LegRun} (turn : Turn) (now : Annealed) (e :
         legal = subst₂ (λ (l : LeagueData) (r : ℕ). IsLegal l r h) league_is room_is e.annealed.legal;
         never_worse = subst (λ (l : LeagueData). least_of l h ≤ least_of l e.old.board.history) e.begins.alike.league_is
             e.annealed.never_worse;
-        figures = subst₂ (λ (l : LeagueData) (r : ℕ). AreFigures turn.leg (book l r h) now.end) league_is room_is e.annealed.figures;
+        figures = subst₂ (λ (l : LeagueData) (r : ℕ). AreFigures assignment.leg (book l r h) now.end) league_is room_is e.annealed.figures;
       }
 
-  pub entrant_is : IsEntrant start (run_of turn now ∷ legs) (record { number = turn.chain; chain = now.chain })
+  pub entrant_is : IsEntrant start (run_of assignment now ∷ legs) (record { number = assignment.chain; chain = now.chain })
   entrant_is = record { alike = record { league_is = league_is; room_is = room_is }; begins = inl (refl, refl) }
 
 legs_few : (league : LeagueData) (room : ℕ) (legs : List LegRun) → AreLegs league room legs → length legs ≤ steps_in legs
@@ -119,81 +119,81 @@ unfolding lead_of
 lead_next league run [] = refl
 lead_next league run (r ∷ before) = rw (not_first (length before)) refl
 
-pub reported_more : (start : Book) (legs : List LegRun) (reported new : Reported) (turn : Turn) (now : Annealed) → HasReported start legs reported →
+pub reported_more : (start : Book) (legs : List LegRun) (reported new : Reported) (assignment : Assignment) (now : Annealed) → HasReported start legs reported →
     new.lead ≡ book reported.lead.league reported.lead.room (lead_after reported.lead.league reported.legs reported.lead.history now.chain.board.history) →
     new.least ≡ lesser reported.least (least_in reported.lead.league now.chain.board.history) → new.legs ≡ reported.legs + 1 →
-    new.chains.bests.items ≡ offered (reached turn.chain reported.lead.league now.chain.board.history) reported.chains.bests.items →
-    HasReported start (run_of turn now ∷ legs) new
+    new.chains.bests.items ≡ offered (reached assignment.chain reported.lead.league now.chain.board.history) reported.chains.bests.items →
+    HasReported start (run_of assignment now ∷ legs) new
 unfolding chains_of
-reported_more start legs reported new turn now is lead least count chains = record {
-  lead_is = lead ∙ rw (is.lead_is, is.count) (ap (book start.league start.room) (lead_next start.league (run_of turn now) legs));
+reported_more start legs reported new assignment now is lead least count chains = record {
+  lead_is = lead ∙ rw (is.lead_is, is.count) (ap (book start.league start.room) (lead_next start.league (run_of assignment now) legs));
   least_is = least ∙ rw (is.lead_is, is.least_is) refl;
   count = omega (arith, count, is.count);
   chains_is = chains ∙ rw (is.lead_is, is.chains_is) refl;
 }
 
-abbrev pub reported_leg : Reported → Turn → Annealed → ReportedLeg
-reported_leg reported turn now = record { number = reported.legs + 1; chain = turn.chain; leg = turn.leg; end = now.end }
+abbrev pub reported_leg : Reported → Assignment → Annealed → ReportedLeg
+reported_leg reported assignment now = record { number = reported.legs + 1; chain = assignment.chain; leg = assignment.leg; end = now.end }
 
-text_is : (start : Book) (legs : List LegRun) (unit : Measure) (reported : Reported) (turn : Turn) (now : Annealed) → CanEnd start legs turn now →
-    HasReported start legs reported → leg_text now.chain.board.league unit (reported_leg reported turn now) reported.least now.chain.board.history ≡
-    leg_text start.league unit (reported_as (length legs + 1) (run_of turn now)) (least_reported start.league legs) now.chain.board.history
-text_is start legs unit reported turn now e is = rw (league_is turn now e, is.count, is.least_is) refl
+text_is : (start : Book) (legs : List LegRun) (unit : Measure) (reported : Reported) (assignment : Assignment) (now : Annealed) → CanEnd start legs assignment now →
+    HasReported start legs reported → leg_text now.chain.board.league unit (reported_leg reported assignment now) reported.least now.chain.board.history ≡
+    leg_text start.league unit (reported_as (length legs + 1) (run_of assignment now)) (least_reported start.league legs) now.chain.board.history
+text_is start legs unit reported assignment now e is = rw (league_is assignment now e, is.count, is.least_is) refl
 
 module _ {W : Type 0} (held : W → Option (List ℕ)) (tally : W → Tally) (start : Book) (unit : Measure) (plan : ImprovePlan) where
-  pub sends_more : {a b c : BufferedSink W} (w : HasSent held tally start unit plan a b) (reported : Reported) (turn : Turn) (now : Annealed) →
-      CanEnd start w.legs turn now → HasReported start w.legs reported →
-      Adds held tally b c (leg_text now.chain.board.league unit (reported_leg reported turn now) reported.least now.chain.board.history) →
-      waiting_in c ≡ [] → Sends held tally start unit plan a c (legs_text start.league unit (run_of turn now ∷ w.legs))
+  pub sends_more : {a b c : BufferedSink W} (w : HasSent held tally start unit plan a b) (reported : Reported) (assignment : Assignment) (now : Annealed) →
+      CanEnd start w.legs assignment now → HasReported start w.legs reported →
+      Adds held tally b c (leg_text now.chain.board.league unit (reported_leg reported assignment now) reported.least now.chain.board.history) →
+      waiting_in c ≡ [] → Sends held tally start unit plan a c (legs_text start.league unit (run_of assignment now ∷ w.legs))
   unfolding legs_text
-  sends_more {a} {b} {c} w reported turn now e is adds none = record {
-    adds = Adds-then w.sends.adds (subst (Adds held tally b c) (text_is start w.legs unit reported turn now e is) adds);
+  sends_more {a} {b} {c} w reported assignment now e is adds none = record {
+    adds = Adds-then w.sends.adds (subst (Adds held tally b c) (text_is start w.legs unit reported assignment now e is) adds);
     sent = none;
   }
 
-  abbrev pub sent_more : {a b c : BufferedSink W} (w : HasSent held tally start unit plan a b) (reported : Reported) (turn : Turn)
-      (now : Annealed) → CanEnd start w.legs turn now → HasReported start w.legs reported →
-      Adds held tally b c (leg_text now.chain.board.league unit (reported_leg reported turn now) reported.least now.chain.board.history) →
+  abbrev pub sent_more : {a b c : BufferedSink W} (w : HasSent held tally start unit plan a b) (reported : Reported) (assignment : Assignment)
+      (now : Annealed) → CanEnd start w.legs assignment now → HasReported start w.legs reported →
+      Adds held tally b c (leg_text now.chain.board.league unit (reported_leg reported assignment now) reported.least now.chain.board.history) →
       waiting_in c ≡ [] → HasSent held tally start unit plan a c
-  sent_more w reported turn now e is adds none = record {
-    legs = run_of turn now ∷ w.legs;
-    are = (leg_is turn now e, w.are);
-    sends = sends_more w reported turn now e is adds none;
+  sent_more w reported assignment now e is adds none = record {
+    legs = run_of assignment now ∷ w.legs;
+    are = (leg_is assignment now e, w.are);
+    sends = sends_more w reported assignment now e is adds none;
   }
 
-  pub stopped_more : {a b c : BufferedSink W} (w : HasSent held tally start unit plan a b) (reported : Reported) (turn : Turn) (now : Annealed) →
-      CanEnd start w.legs turn now → HasReported start w.legs reported →
-      Stops held tally b c (leg_text now.chain.board.league unit (reported_leg reported turn now) reported.least now.chain.board.history) →
+  pub stopped_more : {a b c : BufferedSink W} (w : HasSent held tally start unit plan a b) (reported : Reported) (assignment : Assignment) (now : Annealed) →
+      CanEnd start w.legs assignment now → HasReported start w.legs reported →
+      Stops held tally b c (leg_text now.chain.board.league unit (reported_leg reported assignment now) reported.least now.chain.board.history) →
       HasStopped held tally start unit plan a c
   unfolding legs_text improve_text
-  stopped_more {a} {b} {c} w reported turn now e is stops = record {
-    legs = run_of turn now ∷ w.legs;
-    are = (leg_is turn now e, w.are);
+  stopped_more {a} {b} {c} w reported assignment now e is stops = record {
+    legs = run_of assignment now ∷ w.legs;
+    are = (leg_is assignment now e, w.are);
     ended = false;
     all = λ ended. absurd (true≢false (sym ended));
-    stops = Stops-more (ending start.league false (run_of turn now ∷ w.legs))
-        (Adds-stops w.sends.adds (subst (Stops held tally b c) (text_is start w.legs unit reported turn now e is) stops));
+    stops = Stops-more (ending start.league false (run_of assignment now ∷ w.legs))
+        (Adds-stops w.sends.adds (subst (Stops held tally b c) (text_is start w.legs unit reported assignment now e is) stops));
   }
 
   -- the line goes on with the chain of the leg
   pub under_way_more : {a b c : BufferedSink W} (leg : RunningLeg) (line new : Line) (reported reported' : Reported) (now : Annealed)
-      (w : IsUnderWay held tally start unit plan a b (leg ∷ []) line reported) → CanEnd start w.sent.legs leg.turn now →
-      Adds held tally b c (leg_text now.chain.board.league unit (reported_leg reported leg.turn now) reported.least now.chain.board.history) →
+      (w : IsUnderWay held tally start unit plan a b (leg ∷ []) line reported) → CanEnd start w.sent.legs leg.assignment now →
+      Adds held tally b c (leg_text now.chain.board.league unit (reported_leg reported leg.assignment now) reported.least now.chain.board.history) →
       waiting_in c ≡ [] →
       reported'.lead ≡ book reported.lead.league reported.lead.room (lead_after reported.lead.league reported.legs reported.lead.history now.chain.board.history) →
       reported'.least ≡ lesser reported.least (least_in reported.lead.league now.chain.board.history) → reported'.legs ≡ reported.legs + 1 →
-      reported'.chains.bests.items ≡ offered (reached leg.turn.chain reported.lead.league now.chain.board.history) reported.chains.bests.items →
-      ((legs : List LegRun) → IsEntrant start legs (record { number = leg.turn.chain; chain = now.chain }) → IsLine start legs line →
-      IsLine start legs new) → left_in new + now.end.steps ≡ left_in line + turn_steps leg.turn →
+      reported'.chains.bests.items ≡ offered (reached leg.assignment.chain reported.lead.league now.chain.board.history) reported.chains.bests.items →
+      ((legs : List LegRun) → IsEntrant start legs (record { number = leg.assignment.chain; chain = now.chain }) → IsLine start legs line →
+      IsLine start legs new) → left_in new + now.end.steps ≡ left_in line + assigned_steps leg.assignment →
       IsUnderWay held tally start unit plan a c [] new reported'
   under_way_more leg line new reported reported' now w e adds none lead least count chains goes_on left =
-      let run = run_of leg.turn now in
+      let run = run_of leg.assignment now in
       record {
-        sent = sent_more w.sent reported leg.turn now e w.reported_is adds none;
+        sent = sent_more w.sent reported leg.assignment now e w.reported_is adds none;
         steps = omega (arith, w.steps, left, sum_by-cons steps_of run w.sent.legs, sum_by-cons running_steps leg []);
         running = All-nil (IsRunning start (run ∷ w.sent.legs));
-        line_is = goes_on (run ∷ w.sent.legs) (entrant_is leg.turn now e) (line_later start w.sent.legs run line w.line_is);
-        reported_is = reported_more start w.sent.legs reported reported' leg.turn now w.reported_is lead least count chains;
+        line_is = goes_on (run ∷ w.sent.legs) (entrant_is leg.assignment now e) (line_later start w.sent.legs run line w.line_is);
+        reported_is = reported_more start w.sent.legs reported reported' leg.assignment now w.reported_is lead least count chains;
       }
 
   -- each leg took a step
@@ -224,12 +224,12 @@ module _ {W : Type 0} (held : W → Option (List ℕ)) (tally : W → Tally) (st
       IsUnderWay held tally start unit plan a b [] line reported → first ≡ Some leg →
       ((legs : List LegRun) → IsLine start legs line → IsLine start legs new) →
       ((legs : List LegRun) → IsLine start legs line → IfSome first (IsRunning start legs)) →
-      IfSome first (λ leg. turn_steps leg.turn + left_in new ≡ left_in line) →
+      IfSome first (λ leg. assigned_steps leg.assignment + left_in new ≡ left_in line) →
       IsUnderWay held tally start unit plan a b (leg ∷ []) new reported
   under_way_next line new reported first leg w same goes_on runs left =
       let legs = w.sent.legs in
       let is : IsRunning start legs leg = rw same at (runs legs w.line_is) in
-      let fewer : turn_steps leg.turn + left_in new ≡ left_in line = rw same at left in
+      let fewer : assigned_steps leg.assignment + left_in new ≡ left_in line = rw same at left in
       record {
         sent = w.sent;
         steps = omega (arith, w.steps, fewer, sum_by-cons running_steps leg []);

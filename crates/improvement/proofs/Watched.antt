@@ -10,7 +10,7 @@ use Rattle.streams.proofs.Sendings.{AppendsAllBut-all}
 use Rattle.annealing.specs.declared.chain.Annealed.{Annealed}
 use Rattle.annealing.specs.declared.unit.Unit.{Unit as Measure}
 use Rattle.annealing.specs.Walks.{IsUnitOf}
-use Rattle.improvement.specs.declared.legs.Turn.{Turn}
+use Rattle.improvement.specs.declared.legs.Assignment.{Assignment}
 use Rattle.improvement.specs.declared.plan.ImprovePlan.{ImprovePlan}
 use Rattle.improvement.specs.declared.reported.Reported.{Reported}
 use Rattle.improvement.specs.declared.watcher.LegEnded.{LegEnded}
@@ -21,12 +21,12 @@ use Rattle.improvement.specs.Watched.{HasLines, IsNewest, ended_as, takes_lead}
 use Rattle.improvement.specs.within.UnderWay.{HasReported, HasSent}
 use Rattle.improvement.proofs.UnderWay.{reported_leg, run_of}
 
-pub newest_is : (start : Book) (legs : List LegRun) (reported new : Reported) (turn : Turn) (now : Annealed) (leg : LegEnded) (improves : Bool)
-    (better : Option Book) → HasReported start legs reported → HasReported start (run_of turn now ∷ legs) new →
-    leg ≡ ended_as (reported_leg reported turn now) new.least →
+pub newest_is : (start : Book) (legs : List LegRun) (reported new : Reported) (assignment : Assignment) (now : Annealed) (leg : LegEnded) (improves : Bool)
+    (better : Option Book) → HasReported start legs reported → HasReported start (run_of assignment now ∷ legs) new →
+    leg ≡ ended_as (reported_leg reported assignment now) new.least →
     improves ≡ takes_lead reported.lead.league reported.legs reported.lead.history now.chain.board.history →
-    better ≡ (if improves then Some new.lead else None) → IsNewest start.league start.room (run_of turn now ∷ legs) leg better
-newest_is start legs reported new turn now leg improves better is is' ended improves_is shows = (
+    better ≡ (if improves then Some new.lead else None) → IsNewest start.league start.room (run_of assignment now ∷ legs) leg better
+newest_is start legs reported new assignment now leg improves better is is' ended improves_is shows = (
   ended ∙ rw (is.count, is'.least_is) refl,
   shows ∙ rw (improves_is, is'.lead_is, is.lead_is, is.count) refl,
 )

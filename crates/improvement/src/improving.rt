@@ -1,13 +1,13 @@
 //! The improvement of a league's schedule.
 
 ghost use Rattle.std.specs.Prelude.{◌≡◌, ◌+◌, ◌<◌, ◌≤◌, List, [], ◌∷◌, IfOk, OnOk, IfNone, IfSome, None};
-ghost use Rattle.policy.specs.Limits.{most_effort};
+ghost use Rattle.policy.specs.Limits.{max_effort};
 ghost use Rattle.streams.specs.declared.buffered.BufferedSink.{BufferedSink};
 ghost use Rattle.streams.specs.Writing.{waiting_in};
 ghost use Rattle.league.specs.League.{teams};
 ghost use Rattle.search.specs.Draws.{AreRoundsOf};
 ghost use Rattle.improvement.specs.Legs.{LegRun};
-ghost use Rattle.improvement.specs.within.Lines.{IsLine, IsRunning, left_in, turn_steps};
+ghost use Rattle.improvement.specs.within.Lines.{IsLine, IsRunning, left_in, assigned_steps};
 ghost use Rattle.improvement.specs.Outcome.{Improves};
 ghost use Rattle.improvement.specs.within.Settings.{IsSetting};
 ghost use Rattle.improvement.specs.within.UnderWay.{EndsBy, HasRunAll, HasWritten, IsUnderWay};
@@ -46,7 +46,7 @@ pub fn improve<T: Threads + Wait + Sync, G: Gate + Sync, W: Sink, V: Watcher<W> 
     watcher: V,
 ) -> Result<Option<Best>, ImproveFault>
     requires least { 1 ≤ plan.effort }
-    requires most { plan.effort ≤ most_effort }
+    requires most { plan.effort ≤ max_effort }
     ensures { Improves W.held W.tally league plan sink.old sink.new result }
 {
     if plan.workers < 1 || MAX_WORKERS < plan.workers {
@@ -170,7 +170,7 @@ fn next_leg<'s, E, T: Threads + Wait + Sync, G: Gate + Sync, W: Sink, V: Watcher
         OnOk result (IsLine setting.entry.start.now legs line.new) }
     ensures leg { (legs : List LegRun) → IsLine setting.entry.start.now legs line.old →
         IfOk result (λ r. IfSome r (IsRunning setting.entry.start.now legs)) }
-    ensures left { IfOk result (λ r. IfSome r (λ leg. turn_steps leg.turn + left_in line.new ≡ left_in line.old)) }
+    ensures left { IfOk result (λ r. IfSome r (λ leg. assigned_steps leg.assignment + left_in line.new ≡ left_in line.old)) }
     ensures none { IfOk result (λ r. IfNone r (setting.entry.plan.first ≡ None → left_in line.old ≡ 0)) }
 {
     if setting.plan.first.is_some() && !watcher.wants_more() {
@@ -198,20 +198,20 @@ fn report_leg<'w, T: Threads + Wait + Sync, G: Gate + Sync, W: Sink, V: Watcher<
         EndsBy W.held W.tally setting.entry.start.now setting.entry.unit setting.entry.plan first out.new
         (λ done. IsUnderWay W.held W.tally setting.entry.start.now setting.entry.unit setting.entry.plan first out.new []
         line.new reported.new) result }
-    ensures fewer { OnOk result (left_in line.new < turn_steps leg.turn + left_in line.old) }
+    ensures fewer { OnOk result (left_in line.new < assigned_steps leg.assignment + left_in line.old) }
 {
     let run_context = setting.run_context;
-    let RunningLeg { turn, state } = leg;
+    let RunningLeg { assignment, state } = leg;
     let Annealed { chain, end } = state.outcome(run_context.rt)?;
     run_context.gate.ended(run_context.rt);
     let ended = ReportedLeg {
         number: reported.legs + 1,
-        chain: turn.chain,
-        leg: turn.leg,
+        chain: assignment.chain,
+        leg: assignment.leg,
         end,
     };
     write_leg(out, setting.unit, ended, reported.least, &chain.board)?;
-    let improves = reported.offer(run_context.alloc, turn.chain, &chain.board)?;
+    let improves = reported.offer(run_context.alloc, assignment.chain, &chain.board)?;
     let written = Written {
         league: setting.start.league(),
         plan: setting.plan,
@@ -224,7 +224,7 @@ fn report_leg<'w, T: Threads + Wait + Sync, G: Gate + Sync, W: Sink, V: Watcher<
         written,
     );
     run_context.gate.begun(run_context.rt, 0);
-    let number = turn.chain;
-    line.go_on(turn, end, Entrant { number, chain })?;
+    let number = assignment.chain;
+    line.go_on(assignment, end, Entrant { number, chain })?;
     Ok(())
 }

@@ -6,7 +6,7 @@ ghost use Rattle.fixture_board.specs.Record.{Book};
 ghost use Rattle.policy.specs.Legs.{IsLeg, IsWeightCourse};
 ghost use Rattle.search.specs.Draws.{AreRoundsOf};
 ghost use Rattle.annealing.specs.Legs.{IsAnnealed};
-ghost use Rattle.improvement.specs.declared.legs.Turn.{Turn};
+ghost use Rattle.improvement.specs.declared.legs.Assignment.{Assignment};
 ghost use Rattle.improvement.specs.Legs.{LegRun};
 ghost use Rattle.improvement.specs.within.Lines.{CanEnd, IsRunning, IsState, IsWaiting, chain_of};
 
@@ -22,14 +22,14 @@ use std::thread::{Promise, PromisedHandle, Scope, Threads};
 
 /// A leg of a chain's bout.
 #[derive(Clone, Copy)]
-pub(crate) struct Turn {
+pub(crate) struct Assignment {
     /// The number of the chain.
     pub(crate) chain: u64,
     pub(crate) bout: u32,
     pub(crate) leg: Leg,
 }
 
-impl Turn {
+impl Assignment {
     fn plan(self, seed: u64, stream: u64) -> LegPlan
         ensures { result ≡ record { leg = self.leg; seed = seed; stream = stream } }
     {
@@ -41,7 +41,7 @@ impl Turn {
 /// A leg that can begin.
 #[derive(Drop)]
 pub(crate) struct WaitingLeg {
-    pub(crate) turn: Turn,
+    pub(crate) assignment: Assignment,
     /// The stream of its draws.
     pub(crate) stream: u64,
     /// The chain's weight.
@@ -53,7 +53,7 @@ pub(crate) struct WaitingLeg {
 /// A leg that has begun.
 #[derive(Drop)]
 pub(crate) struct RunningLeg {
-    pub(crate) turn: Turn,
+    pub(crate) assignment: Assignment,
     pub(crate) state: LegState,
 }
 
@@ -103,15 +103,15 @@ impl WaitingLeg {
         requires weights { IsWeightCourse weights }
         requires rounds { AreRoundsOf (teams setting.start.now.league) setting.rounds.now }
         requires leg { (legs : List LegRun) × IsWaiting setting.start.now legs self }
-        ensures turn { IfOk result (λ r. r.turn ≡ self.turn) }
+        ensures assignment { IfOk result (λ r. r.assignment ≡ self.assignment) }
         ensures running { (legs : List LegRun) → IsWaiting setting.entry.start.now legs self →
             IfOk result (IsRunning setting.entry.start.now legs) }
     {
-        let turn = self.turn;
-        let plan = turn.plan(seed, self.stream);
+        let assignment = self.assignment;
+        let plan = assignment.plan(seed, self.stream);
         let chain = self.chain(&setting)?;
         let state = run(scope, setting, weights, chain, plan);
-        Ok(RunningLeg { turn, state })
+        Ok(RunningLeg { assignment, state })
     }
 }
 
@@ -167,8 +167,8 @@ fn run<'s, E, T: Threads + Wait + Sync, G: Gate + Sync>(
 impl LegState {
     /// Waits for the leg's end.
     pub(crate) fn outcome<T: Threads>(self, rt: &T) -> Outcome
-        ensures { (start : Book) (legs : List LegRun) (turn : Turn) →
-            IsState (CanEnd start legs turn) self → IfOk result (CanEnd start legs turn) }
+        ensures { (start : Book) (legs : List LegRun) (assignment : Assignment) →
+            IsState (CanEnd start legs assignment) self → IfOk result (CanEnd start legs assignment) }
     {
         match self {
             LegState::InThread(handle) => handle.join(rt),

@@ -2,16 +2,16 @@
 
 ghost use Rattle.std.specs.Prelude.{◌≡◌, ◌+◌, ◌<◌, ◌≤◌, List, [], ◌∷◌, ◌++◌, length, IfOk, OnOk, IfNone, IfSome, true, false};
 ghost use Rattle.league.specs.League.{teams};
-ghost use Rattle.policy.specs.Limits.{most_effort};
+ghost use Rattle.policy.specs.Limits.{max_effort};
 ghost use Rattle.search.specs.Draws.{AreRoundsOf};
-ghost use Rattle.improvement.specs.declared.legs.Turn.{Turn};
+ghost use Rattle.improvement.specs.declared.legs.Assignment.{Assignment};
 ghost use Rattle.improvement.specs.Legs.{LegRun};
 ghost use Rattle.improvement.specs.within.Aims.{IsAimOf};
-ghost use Rattle.improvement.specs.within.Lines.{IsEntrant, IsLine, IsRunning, left_in, steps_left, turn_steps, turns_of, waiting_for};
+ghost use Rattle.improvement.specs.within.Lines.{IsEntrant, IsLine, IsRunning, left_in, steps_left, assigned_steps, assignments_of, waiting_for};
 ghost use Rattle.fixture_board.specs.Record.{Book};
 
 use crate::field::Entrant;
-use crate::legs::{RunningLeg, Turn, WaitingLeg};
+use crate::legs::{Assignment, RunningLeg, WaitingLeg};
 use crate::series::Series;
 use crate::setting::Setting;
 use crate::stage::{Beginning, Stage};
@@ -51,7 +51,7 @@ pub(crate) struct Line {
 impl Line {
     /// Before the first wave.
     pub(crate) fn new<T, G>(setting: &Setting<'_, T, G>) -> Self
-        requires { setting.now.plan.effort ≤ most_effort }
+        requires { setting.now.plan.effort ≤ max_effort }
         ensures line { (legs : List LegRun) → IsLine setting.now.start.now legs result }
         ensures left { left_in result ≡ setting.now.plan.effort }
         ensures aim { IsAimOf setting.now.start.now.league result.series.facts.aim }
@@ -84,9 +84,9 @@ impl Line {
             OnOk result (IsLine setting.entry.start.now legs self.new) }
         ensures leg { (legs : List LegRun) → IsLine setting.entry.start.now legs self.old →
             IfOk result (λ r. IfSome r (IsRunning setting.entry.start.now legs)) }
-        ensures first { IfOk result (λ r. IfSome r (λ leg. (more : List Turn) ×
-            (turns_of self.old ++ more ≡ leg.turn ∷ turns_of self.new))) }
-        ensures left { IfOk result (λ r. IfSome r (λ leg. turn_steps leg.turn + left_in self.new ≡ left_in self.old)) }
+        ensures first { IfOk result (λ r. IfSome r (λ leg. (more : List Assignment) ×
+            (assignments_of self.old ++ more ≡ leg.assignment ∷ assignments_of self.new))) }
+        ensures left { IfOk result (λ r. IfSome r (λ leg. assigned_steps leg.assignment + left_in self.new ≡ left_in self.old)) }
         ensures none { IfOk result (λ r. IfNone r (left_in self.old ≡ 0)) }
     {
         if !self.fill(setting.run_context.alloc)? {
@@ -100,7 +100,7 @@ impl Line {
     pub(crate) fn next_running(&mut self) -> Option<RunningLeg>
         ensures line { (start : Book) (legs : List LegRun) → IsLine start legs self.old → IsLine start legs self.new }
         ensures leg { (start : Book) (legs : List LegRun) → IsLine start legs self.old → IfSome result (IsRunning start legs) }
-        ensures left { IfSome result (λ leg. turn_steps leg.turn + left_in self.new ≡ left_in self.old) }
+        ensures left { IfSome result (λ leg. assigned_steps leg.assignment + left_in self.new ≡ left_in self.old) }
     {
         self.running.pop_front()
     }
@@ -108,9 +108,9 @@ impl Line {
     /// Has legs get in line, first those of the present wave, then those of the next one if the line is empty. Tells whether there are any.
     fn fill(&mut self, alloc: Global) -> Result<bool, AllocError>
         ensures line { (start : Book) (legs : List LegRun) → IsLine start legs self.old → OnOk result (IsLine start legs self.new) }
-        ensures turns { OnOk result ((more : List Turn) × (turns_of self.new ≡ turns_of self.old ++ more)) }
+        ensures assignments { OnOk result ((more : List Assignment) × (assignments_of self.new ≡ assignments_of self.old ++ more)) }
         ensures left { OnOk result (left_in self.new ≡ left_in self.old) }
-        ensures some { IfOk result (λ some. some ≡ true → 1 ≤ length (turns_of self.new)) }
+        ensures some { IfOk result (λ some. some ≡ true → 1 ≤ length (assignments_of self.new)) }
         ensures none { IfOk result (λ some. some ≡ false → left_in self.new ≡ 0) }
     {
         self.line_up(alloc)?;
@@ -127,7 +127,7 @@ impl Line {
     }
 
     fn places_taken(&self) -> usize
-        ensures { result ≡ length (turns_of self.now) }
+        ensures { result ≡ length (assignments_of self.now) }
     {
         self.running.len().saturating_add(self.waiting.len())
     }
@@ -135,7 +135,7 @@ impl Line {
     /// Has bouts of the wave get in line while there is a place.
     fn line_up(&mut self, alloc: Global) -> Result<(), AllocError>
         ensures line { (start : Book) (legs : List LegRun) → IsLine start legs self.old → OnOk result (IsLine start legs self.new) }
-        ensures turns { OnOk result ((more : List Turn) × (turns_of self.new ≡ turns_of self.old ++ more)) }
+        ensures assignments { OnOk result ((more : List Assignment) × (assignments_of self.new ≡ assignments_of self.old ++ more)) }
         ensures left { OnOk result (left_in self.new ≡ left_in self.old) }
     {
         while let Some(bout) = self.stage.bout() {
@@ -151,11 +151,11 @@ impl Line {
     fn line_up_bout(&mut self, alloc: Global, bout: u32) -> Result<(), AllocError>
         requires { self.old.stage.begun < self.old.stage.wave.bouts }
         ensures line { (start : Book) (legs : List LegRun) → IsLine start legs self.old → OnOk result (IsLine start legs self.new) }
-        ensures turns { OnOk result ((more : List Turn) × (turns_of self.new ≡ turns_of self.old ++ more)) }
+        ensures assignments { OnOk result ((more : List Assignment) × (assignments_of self.new ≡ assignments_of self.old ++ more)) }
         ensures left { OnOk result (left_in self.new ≡ left_in self.old) }
         ensures begun { OnOk result (self.new.stage.begun ≡ self.old.stage.begun + 1) }
         ensures wave { OnOk result (self.new.stage.wave ≡ self.old.stage.wave) }
-        ensures first { bout ≡ 0 → 1 ≤ self.old.series.policy.left → OnOk result (1 ≤ length (turns_of self.new)) }
+        ensures first { bout ≡ 0 → 1 ≤ self.old.series.policy.left → OnOk result (1 ≤ length (assignments_of self.new)) }
     {
         let Some(leg) = self.series.policy.first_leg(bout) else {
             return self.stage.pass_bout();
@@ -180,7 +180,7 @@ impl Line {
         let stream = self.series.lined;
         self.series.lined = stream.wrapping_add(1);
         self.waiting.push_back(WaitingLeg {
-            turn: Turn { chain, bout, leg },
+            assignment: Assignment { chain, bout, leg },
             stream,
             weight,
             board,
@@ -198,9 +198,9 @@ impl Line {
         requires line { (legs : List LegRun) × IsLine setting.start.now legs self.old }
         ensures line { (legs : List LegRun) → IsLine setting.entry.start.now legs self.old →
             OnOk result (IsLine setting.entry.start.now legs self.new) }
-        ensures turns { OnOk result (turns_of self.new ≡ turns_of self.old) }
+        ensures assignments { OnOk result (assignments_of self.new ≡ assignments_of self.old) }
         ensures series { OnOk result (self.new.series ≡ self.old.series) }
-        ensures some { 1 ≤ setting.entry.plan.workers → 1 ≤ length (turns_of self.old) →
+        ensures some { 1 ≤ setting.entry.plan.workers → 1 ≤ length (assignments_of self.old) →
             OnOk result (1 ≤ length self.new.running.items) }
     {
         while self.running.len() < setting.plan.workers as usize {
@@ -218,18 +218,22 @@ impl Line {
     /// Has the chain of a leg that has left the line go on: to its bout's next leg, or to the next wave.
     pub(crate) fn go_on(
         &mut self,
-        turn: Turn,
+        assignment: Assignment,
         end: LegEnd,
         entrant: Entrant,
     ) -> Result<(), AllocError>
-        requires ended { end.steps ≤ turn.leg.steps }
-        requires out { self.old.series.policy.left + turn.leg.steps ≤ most_effort }
+        requires ended { end.steps ≤ assignment.leg.steps }
+        requires out { self.old.series.policy.left + assignment.leg.steps ≤ max_effort }
         ensures line { (start : Book) (legs : List LegRun) → IsEntrant start legs entrant → IsLine start legs self.old →
             OnOk result (IsLine start legs self.new) }
-        ensures left { OnOk result (left_in self.new + end.steps ≡ left_in self.old + turn_steps turn) }
+        ensures left { OnOk result (left_in self.new + end.steps ≡ left_in self.old + assigned_steps assignment) }
     {
-        match self.series.policy.next_leg(turn.bout, turn.leg, end) {
-            Some(leg) => self.wait(turn.bout, leg, Beginning::at_best(entrant)),
+        match self
+            .series
+            .policy
+            .next_leg(assignment.bout, assignment.leg, end)
+        {
+            Some(leg) => self.wait(assignment.bout, leg, Beginning::at_best(entrant)),
             None => self.stage.end_bout(entrant),
         }
     }

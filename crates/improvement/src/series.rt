@@ -1,7 +1,7 @@
 //! Improvements that follow each other.
 
 ghost use Rattle.std.specs.Prelude.{◌≡◌, ◌+◌, ◌-◌, ◌*◌, ◌%◌, ◌^◌, ◌≤◌, min, max, IfNone, IfSome};
-ghost use Rattle.policy.specs.Limits.{most_effort};
+ghost use Rattle.policy.specs.Limits.{max_effort};
 
 use crate::plan::ImprovePlan;
 use policy::{Facts, Policy, Wave};
@@ -20,14 +20,14 @@ pub(crate) struct Series {
     /// The steps of those that are to follow.
     later: u64,
     ghost teams: { 4 ≤ facts.teams },
-    ghost most: { later ≤ most_effort },
+    ghost most: { later ≤ max_effort },
 }
 
 impl Series {
     /// The series of a plan, on as many teams and with the aim of these facts.
     pub(crate) fn new(facts: Facts, plan: ImprovePlan) -> Self
         requires teams { 4 ≤ facts.teams }
-        requires effort { plan.effort ≤ most_effort }
+        requires effort { plan.effort ≤ max_effort }
         ensures left { result.policy.left + result.later ≡ plan.effort }
         ensures seed { result.seed ≡ plan.seed }
         ensures lined { result.lined ≡ 0 }

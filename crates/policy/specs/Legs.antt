@@ -38,5 +38,5 @@ steps_of (Some l) = l.steps
 pub record IsWeightCourse (w : WeightCourse) : Type 0 where
   pub positive : 1 ≤ w.least
   pub first_least : w.least ≤ w.first
-  pub first_most : w.first ≤ w.most
+  pub first_limit : w.first ≤ w.most
   pub bounded : w.most ≤ 1000000000

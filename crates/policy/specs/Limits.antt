@@ -2,5 +2,5 @@
 use Rattle.std.specs.Prelude.{ℕ}
 
 -- the most steps in all
-abbrev pub most_effort : ℕ
-most_effort = 1000000000000
+abbrev pub max_effort : ℕ
+max_effort = 1000000000000

@@ -37,11 +37,11 @@ cools_from p peak = Cools (max peak p.cycles.cold) p.cycles.cold
 
 -- a peak is measured in thousandths of the hottest, and is no higher
 abbrev pub peak_of : Plan → ℕ → ℕ
-peak_of p turn = min (p.hottest * slice_index p.cycles.peaks turn / 1000) p.hottest
+peak_of p number = min (p.hottest * slice_index p.cycles.peaks number / 1000) p.hottest
 
 -- the cycle so many after the wave's first one: the peaks come in turn
 abbrev pub cycle_of : Plan → ℕ → Course
-cycle_of p later = cools_from p (peak_of p ((p.turn + later) % 4))
+cycle_of p later = cools_from p (peak_of p ((p.next_peak + later) % 4))
 
 -- two cycles with so many steps
 abbrev pub two_cycles : Plan → ℕ → Bout

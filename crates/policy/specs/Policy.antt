@@ -49,7 +49,7 @@ pub record IsNewPlan (facts : Facts) (p : Plan) : Type 0 where
   pub reach : p.reach ≡ Untried
   pub cycles : p.cycles ≡ second_half_for facts.teams
   pub cycles_left : p.cycles_left ≡ (second_half_for facts.teams).count
-  pub turn : p.turn ≡ 0
+  pub next_peak : p.next_peak ≡ 0
   pub hottest : p.hottest ≡ UNIT
   pub feasible : p.feasible ≡ false
 
@@ -69,7 +69,7 @@ pub record IsNextWave (field : ℕ) (w : Wave) : Type 0 where
   pub bouts_least : 1 ≤ w.bouts
   pub goes_on : GoesOn field w.source w.bouts w.keep
   pub keep_least : 1 ≤ w.keep
-  pub keep_most : w.keep ≤ 4
+  pub keep_limit : w.keep ≤ 4
   pub keep_within : w.keep ≤ w.bouts
 
 -- a leg, as far as there are steps left for it

@@ -80,7 +80,7 @@ pub record IsNextPlan (field : ℕ) (old new : Plan) (w : Wave) : Type 0 where
   pub bouts : HasBouts new.bouts w
   pub reached : ReachedBy new.bouts old new
   -- the peaks come in turn
-  pub turn : new.turn ≡ (old.turn + cycles_in old.bouts) % 4
+  pub next_peak : new.next_peak ≡ (old.next_peak + cycles_in old.bouts) % 4
   pub teams : new.teams ≡ old.teams
   pub goes_on : new.goes_on ≡ old.goes_on
   pub feasible : new.feasible ≡ old.feasible

@@ -1,19 +1,20 @@
 //! The chains of the first half, from the start.
 
 ghost use Rattle.std.specs.Prelude.{◌≡◌, ◌+◌, ◌^◌, ◌<◌, ◌≤◌};
-ghost use Rattle.policy.specs.Limits.{most_effort};
+ghost use Rattle.policy.specs.Limits.{max_effort};
 ghost use Rattle.policy.specs.Legs.{IsCourse};
 ghost use Rattle.policy.specs.Bouts.{rigid};
 
 use crate::bouts::Bout;
 use crate::legs::{Leg, MoveSet};
 use crate::numbers::{
-    COOL, EARLY_PART, FEW_LOOSE_LEAST, FEW_TEAMS, FIELD_MOST, FIELD_SPANS, HOT, LEAST_GROUPS,
-    LOOSE_LEAST, LOOSE_MOST, LOOSE_SPANS, MILD, MILD_TENTHS, RIGID_MOST, RIGID_SPANS, TEPID, WARM,
+    COOL, EARLY_PART, FEW_LOOSE_LEAST, FEW_TEAMS, FIELD_LIMIT, FIELD_SPANS, HOT, LEAST_GROUPS,
+    LOOSE_LEAST, LOOSE_LIMIT, LOOSE_SPANS, MILD, MILD_TENTHS, RIGID_LIMIT, RIGID_SPANS, TEPID,
+    WARM,
 };
 
 /// More groups than any effort has.
-const MOST_GROUPS: u64 = 10_000_000;
+const MAX_GROUPS: u64 = 10_000_000;
 
 /// One chain, so that there is something good early, and then groups of chains: each of a rigid one and, where they
 /// get long enough, two more.
@@ -33,10 +34,10 @@ pub(crate) struct FirstHalf {
     /// The steps of all chains.
     pub(crate) steps: u64,
     ghost some: { 1 ≤ early },
-    ghost early_most: { early ≤ most_effort },
-    ghost rigid_most: { rigid ≤ most_effort },
+    ghost early_limit: { early ≤ max_effort },
+    ghost rigid_limit: { rigid ≤ max_effort },
     ghost groups_least: { 1 ≤ groups },
-    ghost groups_most: { groups ≤ 10000000 },
+    ghost groups_limit: { groups ≤ 10000000 },
 }
 
 impl FirstHalf {
@@ -44,14 +45,14 @@ impl FirstHalf {
 
     pub(crate) fn new(teams: u8, effort: u64, goes_on: bool) -> Self
         requires teams { 4 ≤ teams }
-        requires effort { effort ≤ most_effort }
+        requires effort { effort ≤ max_effort }
     {
-        let rigid_most = (RIGID_SPANS * span(teams)).min(RIGID_MOST);
-        let loose_most = (LOOSE_SPANS * span(teams)).min(LOOSE_MOST);
-        let early = (effort / EARLY_PART).clamp(1, rigid_most);
+        let rigid_limit = (RIGID_SPANS * span(teams)).min(RIGID_LIMIT);
+        let loose_limit = (LOOSE_SPANS * span(teams)).min(LOOSE_LIMIT);
+        let early = (effort / EARLY_PART).clamp(1, rigid_limit);
         let rest = (effort / 2).saturating_sub(early);
-        let three = rigid_most + 2 * loose_most;
-        let loose = rest * loose_most / three;
+        let three = rigid_limit + 2 * loose_limit;
+        let loose = rest * loose_limit / three;
         let few = teams <= FEW_TEAMS;
         let least = span(teams) * if few { FEW_LOOSE_LEAST } else { LOOSE_LEAST };
         let of_three = groups(rest, three).max(least_groups(few, least, loose));
@@ -59,7 +60,7 @@ impl FirstHalf {
         let (groups, loose) = if least <= loose {
             (of_three, loose)
         } else {
-            (groups(rest, rigid_most), 0)
+            (groups(rest, rigid_limit), 0)
         };
         FirstHalf {
             goes_on,
@@ -109,7 +110,7 @@ pub(crate) fn field_for(teams: u8, steps: u64) -> u32
     ensures least { 1 ≤ result }
     ensures most { result ≤ 4 }
 {
-    (steps / (FIELD_SPANS * span(teams))).clamp(1, FIELD_MOST) as u32
+    (steps / (FIELD_SPANS * span(teams))).clamp(1, FIELD_LIMIT) as u32
 }
 
 /// A span of steps.
@@ -127,7 +128,7 @@ fn groups(rest: u64, most: u64) -> u32
     ensures least { 1 ≤ result }
     ensures most { result ≤ 10000000 }
 {
-    rest.div_ceil(most).clamp(1, MOST_GROUPS) as u32
+    rest.div_ceil(most).clamp(1, MAX_GROUPS) as u32
 }
 
 /// How many groups with loose chains there are at least, where each of the two has so many steps in all groups.
@@ -144,7 +145,7 @@ fn least_groups(few: bool, least: u64, loose: u64) -> u32
 
 /// A rigid chain, which in the end draws rounds too.
 fn rigid(steps: u64) -> Bout
-    requires { steps ≤ most_effort }
+    requires { steps ≤ max_effort }
     ensures value { result ≡ rigid steps }
     ensures steps { 1 ≤ steps → 1 ≤ result.first.steps }
     ensures all { result.first.steps + result.second.steps ≡ steps }

@@ -28,11 +28,11 @@ pub(crate) const EARLY_PART: u64 = 16;
 /// The length of a rigid chain, and the most steps that it has.
 pub(crate) const RIGID_SPANS: u64 = 8;
 
-pub(crate) const RIGID_MOST: u64 = 3_000_000;
+pub(crate) const RIGID_LIMIT: u64 = 3_000_000;
 /// The length of a loose chain, and the most steps that it has.
 pub(crate) const LOOSE_SPANS: u64 = 16;
 
-pub(crate) const LOOSE_MOST: u64 = 6_000_000;
+pub(crate) const LOOSE_LIMIT: u64 = 6_000_000;
 /// Up to so many teams are few.
 pub(crate) const FEW_TEAMS: u8 = 12;
 /// Loose chains that would be shorter are left out: where few teams play, and elsewhere.
@@ -43,7 +43,7 @@ pub(crate) const LOOSE_LEAST: u64 = 5;
 pub(crate) const LEAST_GROUPS: u32 = 2;
 
 /// The most chains that go on to the second half, and how long each is to have there.
-pub(crate) const FIELD_MOST: u64 = 4;
+pub(crate) const FIELD_LIMIT: u64 = 4;
 
 pub(crate) const FIELD_SPANS: u64 = 5;
 

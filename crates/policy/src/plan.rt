@@ -1,7 +1,7 @@
 //! The plan: the waves and their legs, whether or not so many steps are left.
 
 ghost use Rattle.std.specs.Prelude.{◌≡◌, ◌≤◌, ℕ, IfSome};
-ghost use Rattle.policy.specs.Limits.{most_effort};
+ghost use Rattle.policy.specs.Limits.{max_effort};
 
 use crate::bouts::{Bout, Shares};
 use crate::first_half::{FirstHalf, field_for, span};
@@ -51,14 +51,14 @@ pub(crate) struct Plan {
     /// How many cycles are left for one chain.
     cycles_left: u32,
     /// Which of the cycles' peaks comes next: they come in turn.
-    turn: u32,
+    next_peak: u32,
     /// The unit of the peaks: the least temperature at which a try became feasible.
     hottest: u32,
     /// Whether a leg ended with a feasible version in its chain.
     feasible: bool,
     ghost four: { 4 ≤ teams },
     ghost going: { 1 ≤ cycles_left },
-    ghost in_turn: { turn ≤ 3 },
+    ghost in_peaks: { next_peak ≤ 3 },
 }
 
 impl Plan {
@@ -87,7 +87,7 @@ impl Plan {
             level_steps: 0,
             cycles,
             cycles_left: cycles.count,
-            turn: 0,
+            next_peak: 0,
             hottest: UNIT,
             feasible: false,
         }
@@ -108,7 +108,7 @@ impl Plan {
     /// The next wave, with so many chains in the field and so many steps left.
     pub(crate) fn wave(&mut self, field: u32, left: u64) -> Wave
         requires some { 1 ≤ left }
-        requires most { left ≤ most_effort }
+        requires most { left ≤ max_effort }
         requires field { field ≤ 4 }
         ensures wave { IsNextWave field result }
         ensures plan { IsNextPlan field self.old self.new result }
@@ -135,7 +135,7 @@ impl Plan {
 
     /// The wave of the first half.
     fn first_half(&mut self, left: u64) -> Wave
-        requires most { left ≤ most_effort }
+        requires most { left ≤ max_effort }
         requires full { self.old.moves ≡ MoveSet.Full }
         ensures wave { IsNextWave 0 result }
         ensures plan { IsNextPlan 0 self.old self.new result }
@@ -160,7 +160,7 @@ impl Plan {
 
     /// A wave of tries to become feasible from the start, with a wider reach than before.
     fn tries(&mut self, left: u64) -> Wave
-        requires { left ≤ most_effort }
+        requires { left ≤ max_effort }
         ensures wave { (field : ℕ) → IsNextWave field result }
         ensures plan { (field : ℕ) → WantsTries field self.old → IsNextPlan field self.old self.new result }
     {
@@ -244,15 +244,15 @@ impl Plan {
     /// Has these be the bouts of the wave. Peaks that the chains had in the one before are gone through.
     fn begin(&mut self, bouts: Bouts)
         ensures bouts { self.new.bouts ≡ bouts }
-        ensures turn { self.new.turn ≡ (self.old.turn + cycles_in self.old.bouts) % 4 }
-        ensures others { self.new ≡ record self.old { bouts = self.new.bouts; turn = self.new.turn; in_turn = self.new.in_turn } }
+        ensures next_peak { self.new.next_peak ≡ (self.old.next_peak + cycles_in self.old.bouts) % 4 }
+        ensures others { self.new ≡ record self.old { bouts = self.new.bouts; next_peak = self.new.next_peak; in_peaks = self.new.in_peaks } }
     {
         let had = match self.bouts {
             Bouts::FirstHalf(_) | Bouts::Tries(_) => 0,
             Bouts::Level(_) => 2,
             Bouts::Copies(_) => 1,
         };
-        self.turn = (self.turn + had) % 4;
+        self.next_peak = (self.next_peak + had) % 4;
         self.bouts = bouts;
     }
 
@@ -355,8 +355,8 @@ impl Plan {
         ensures value { result ≡ cycle_of self.now later }
         ensures course { IsCourse result }
     {
-        let turn = (self.turn + later) % 4;
-        let peak = u64::from(self.hottest) * u64::from(self.cycles.peaks[turn as usize]) / 1000;
+        let number = (self.next_peak + later) % 4;
+        let peak = u64::from(self.hottest) * u64::from(self.cycles.peaks[number as usize]) / 1000;
         self.cools_from(peak.min(u64::from(self.hottest)) as u32)
     }
 

@@ -5,7 +5,7 @@ use crate::plan::Plan;
 use std::marker::Model;
 
 /// The most steps that a search may take in all.
-pub const MOST_EFFORT: u64 = 1_000_000_000_000;
+pub const MAX_EFFORT: u64 = 1_000_000_000_000;
 
 /// The facts that the policy goes by.
 #[derive(Clone, Copy, Debug, PartialEq, Eq)]
@@ -69,7 +69,7 @@ impl Model for Policy {
 
 impl Policy {
     ghost use Rattle.std.specs.Prelude.{ℕ, ◌≡◌, ◌≢◌, ◌≤◌, ◌+◌, ◌-◌, ◌↔◌, IsSome, IsNone, IfSome, IfNone};
-    ghost use Rattle.policy.specs.Limits.{most_effort};
+    ghost use Rattle.policy.specs.Limits.{max_effort};
     ghost use Rattle.policy.specs.Plan.{IsLegIn, bout_of, leg_after, plan_after, weights_of};
     ghost use Rattle.policy.specs.Policy.{as_far_as, field_after, IsNewPlan, IsNextWave};
     ghost use Rattle.policy.specs.Waves.{IsNextPlan};
@@ -78,7 +78,7 @@ impl Policy {
     /// A policy of which no wave was asked for.
     pub fn new(facts: Facts) -> Self
         requires teams { 4 ≤ facts.teams }
-        requires effort { facts.effort ≤ most_effort }
+        requires effort { facts.effort ≤ max_effort }
         ensures left { result.left ≡ facts.effort }
         ensures field { result.field ≡ 0 }
         ensures plan { IsNewPlan facts result.plan }
@@ -115,7 +115,7 @@ impl Policy {
         // so each wave takes steps
         ensures first { bout ≡ 0 → 1 ≤ self.old.left → IsSome result }
         ensures left { self.new.left + steps_of result ≡ self.old.left }
-        ensures most { self.old.left ≤ most_effort }
+        ensures most { self.old.left ≤ max_effort }
         ensures field { self.new.field ≡ self.old.field }
     {
         let leg = self.plan.bout(bout).first;
@@ -125,7 +125,7 @@ impl Policy {
     /// The bout's leg after one that ended, if there is another. Steps that the ended one left over come back.
     pub fn next_leg(&mut self, bout: u32, leg: Leg, ended: LegEnd) -> Option<Leg>
         requires ended { ended.steps ≤ leg.steps }
-        requires out { self.old.left + leg.steps ≤ most_effort }
+        requires out { self.old.left + leg.steps ≤ max_effort }
         ensures follows { leg ≡ (bout_of self.old.plan bout).first →
             result ≡ as_far_as (self.old.left + (leg.steps - ended.steps)) (leg_after self.old.plan (bout_of self.old.plan bout) ended) }
         ensures ends { leg ≢ (bout_of self.old.plan bout).first → result ≡ None }

@@ -1,10 +1,10 @@
 //! Whole walks: their laws, and beside the twin.
 
 ghost use Rattle.std.specs.Prelude.{◌≤◌};
-ghost use Rattle.policy.specs.Limits.{most_effort};
+ghost use Rattle.policy.specs.Limits.{max_effort};
 
 use crate::walks::{Feasible, Place, Walk, walked};
-use policy::{Aim, Facts, MOST_EFFORT, MoveSet, Policy, WeightCourse};
+use policy::{Aim, Facts, MAX_EFFORT, MoveSet, Policy, WeightCourse};
 use std::process::Abort;
 
 const EFFORTS: [u64; 13] = [
@@ -154,13 +154,13 @@ const LEGS: [Shown; 21] = [
 /// A walk of a setting. No effort is above the most.
 fn walk(setting: Setting) -> Walk
     ensures teams { 4 ≤ result.facts.teams }
-    ensures effort { result.facts.effort ≤ most_effort }
+    ensures effort { result.facts.effort ≤ max_effort }
 {
     let (teams, effort, kind) = setting;
     Walk {
         facts: Facts {
             teams: teams.max(4),
-            effort: effort.min(MOST_EFFORT),
+            effort: effort.min(MAX_EFFORT),
             aim: match kind {
                 Kind::Search | Kind::Heated | Kind::Stuck => Aim::Anew,
                 Kind::Going => Aim::GoOn,
@@ -185,7 +185,7 @@ fn walk(setting: Setting) -> Walk
 /// a step, in its first chain, and the order in which bouts are told changes nothing.
 fn check_walk(rt: &impl Abort, walk: Walk)
     requires teams { 4 ≤ walk.facts.teams }
-    requires effort { walk.facts.effort ≤ most_effort }
+    requires effort { walk.facts.effort ≤ max_effort }
 {
     let totals = walked(walk);
     let overlapping = walked(Walk {
@@ -214,7 +214,7 @@ fn whole_efforts_are_taken(rt: HostRuntime) {
 #[test]
 fn the_most_effort_is_taken(rt: HostRuntime) {
     for teams in [12, 40] {
-        check_walk(&rt, walk((teams, MOST_EFFORT, Kind::Search)));
+        check_walk(&rt, walk((teams, MAX_EFFORT, Kind::Search)));
     }
 }
 

@@ -1,7 +1,7 @@
 //! Walks through whole policies, with ends of legs that are made up.
 
 ghost use Rattle.std.specs.Prelude.{◌≡◌, ◌+◌, ◌≤◌};
-ghost use Rattle.policy.specs.Limits.{most_effort};
+ghost use Rattle.policy.specs.Limits.{max_effort};
 
 use policy::{Course, Facts, Leg, LegEnd, MoveSet, Policy, Source, Wave};
 
@@ -64,7 +64,7 @@ struct Walker {
 impl Walker {
     /// The rest of a bout whose first leg was begun.
     fn finish(&mut self, bout: u32, first: Leg)
-        requires { self.old.policy.left + first.steps ≤ most_effort }
+        requires { self.old.policy.left + first.steps ≤ max_effort }
         ensures { self.new.policy.left ≤ self.old.policy.left + first.steps }
     {
         let ended = self.ended(bout, first);
@@ -203,7 +203,7 @@ fn code_of(moves: MoveSet) -> u64
 
 pub(crate) fn walked(walk: Walk) -> Totals
     requires teams { 4 ≤ walk.facts.teams }
-    requires effort { walk.facts.effort ≤ most_effort }
+    requires effort { walk.facts.effort ≤ max_effort }
 {
     let mut walker = Walker {
         policy: Policy::new(walk.facts),

@@ -9,7 +9,7 @@ use Rattle.command_line.specs.declared.job.Job.TheVariants.{Start, Play, Improve
 use Rattle.command_line.specs.Beginnings.{Beginning as Kept}
 use Rattle.command_line.specs.Files.{Files}
 use Rattle.improvement.specs.declared.plan.ImprovePlan.{ImprovePlan}
-use Rattle.policy.specs.Limits.{most_effort}
+use Rattle.policy.specs.Limits.{max_effort}
 use Rattle.streams.specs.declared.tally.Tally.{Tally}
 use Rattle.texts.specs.Input.{lines_after, text_before}
 use Rattle.beginnings.specs.declared.begun.Beginning.{Beginning}
@@ -66,7 +66,7 @@ HasSearchEnd job outcome = IfOk outcome (λ ending. is_some (search_end_in (Some
 -- the plan of one improvement or, if there are seconds for them, of improvements that follow each other, of which the first has this effort
 abbrev pub plan_of : ℕ → ℕ → ℕ → Option ℕ → ImprovePlan
 plan_of workers seed effort None = record { workers = workers; seed = seed; effort = effort; first = None }
-plan_of workers seed effort (Some seconds) = record { workers = workers; seed = seed; effort = most_effort; first = Some effort }
+plan_of workers seed effort (Some seconds) = record { workers = workers; seed = seed; effort = max_effort; first = Some effort }
 
 -- the league's text and the lines beside it: all of an input and of the second text if that was read by itself, otherwise what
 -- stands before and after the word

@@ -11,7 +11,7 @@ ghost use Rattle.program.specs.Program.{league_part, lines_part, plan_of, rounde
 use crate::timed::Timed;
 use command_line::Job;
 use commands::{
-    Beginning, Extent, Gate, ImprovePlan, MOST_EFFORT, NoGate, ProgramFault, ProgressLine,
+    Beginning, Extent, Gate, ImprovePlan, MAX_EFFORT, NoGate, ProgramFault, ProgressLine,
     RunContext, SearchEnd, Settings, Sink, Verdict, Watcher, find_on, improve_on, league_on,
     play_on, report_on, start_on,
 };
@@ -182,7 +182,7 @@ fn plan_of(workers: u32, seed: u64, effort: u64, seconds: Option<u32>) -> Improv
 {
     let (effort, first) = match seconds {
         None => (effort, None),
-        Some(_) => (MOST_EFFORT, Some(effort)),
+        Some(_) => (MAX_EFFORT, Some(effort)),
     };
     ImprovePlan {
         workers,

@@ -12,7 +12,7 @@ use Rattle.improvement.specs.declared.field.Entrant.{Entrant}
 use Rattle.improvement.specs.declared.legs.LegState.{LegState}
 use Rattle.improvement.specs.declared.legs.LegState.TheVariants.{InThread, Over}
 use Rattle.improvement.specs.declared.legs.RunningLeg.{RunningLeg}
-use Rattle.improvement.specs.declared.legs.Turn.{Turn}
+use Rattle.improvement.specs.declared.legs.Assignment.{Assignment}
 use Rattle.improvement.specs.declared.legs.WaitingLeg.{WaitingLeg}
 use Rattle.improvement.specs.declared.line.Line.{Line}
 use Rattle.improvement.specs.declared.series.Series.{Series}
@@ -50,19 +50,19 @@ MayBegin start legs chain None = Unit {0}
 MayBegin start legs chain (Some board) = IsAtBeginning start legs chain board
 
 pub record IsWaiting (start : Book) (legs : List LegRun) (w : WaitingLeg) : Type 0 where
-  pub leg : IsLeg w.turn.leg
-  pub begins : MayBegin start legs w.turn.chain w.board
+  pub leg : IsLeg w.assignment.leg
+  pub begins : MayBegin start legs w.assignment.chain w.board
 
 -- the chain with which a leg that waits begins: a new one if it has no board
 abbrev pub chain_of : Book → WaitingLeg → Chain
 chain_of start w = record { board = unwrap_or w.board (anew start); weight = w.weight }
 
 -- the leg began so, and ends with this chain
-pub record CanEnd (start : Book) (legs : List LegRun) (turn : Turn) (now : Annealed) : Type 0 where
+pub record CanEnd (start : Book) (legs : List LegRun) (assignment : Assignment) (now : Annealed) : Type 0 where
   pub weights : WeightCourse
   pub old : Chain
-  pub begins : IsAtBeginning start legs turn.chain old.board
-  pub annealed : IsAnnealed weights turn.leg old now
+  pub begins : IsAtBeginning start legs assignment.chain old.board
+  pub annealed : IsAnnealed weights assignment.leg old now
 
 -- if memory doesn't run out, the leg ends so
 abbrev pub IsState : (Annealed → Type 0) → LegState → Type 0
@@ -71,23 +71,23 @@ IsState P (InThread handle) =
 IsState P (Over outcome) = IfOk outcome P
 
 abbrev pub IsRunning : Book → List LegRun → RunningLeg → Type 0
-IsRunning start legs r = IsState (CanEnd start legs r.turn) r.state
+IsRunning start legs r = IsState (CanEnd start legs r.assignment) r.state
 
-abbrev pub turn_of_running : RunningLeg → Turn
-turn_of_running r = r.turn
+abbrev pub assignment_of_running : RunningLeg → Assignment
+assignment_of_running r = r.assignment
 
-abbrev pub turn_of_waiting : WaitingLeg → Turn
-turn_of_waiting w = w.turn
+abbrev pub assignment_of_waiting : WaitingLeg → Assignment
+assignment_of_waiting w = w.assignment
 
 -- the legs in line, in their order
-abbrev pub turns_of : Line → List Turn
-turns_of line = map turn_of_running line.running.items ++ map turn_of_waiting line.waiting.items
+abbrev pub assignments_of : Line → List Assignment
+assignments_of line = map assignment_of_running line.running.items ++ map assignment_of_waiting line.waiting.items
 
-abbrev pub turn_steps : Turn → ℕ
-turn_steps turn = turn.leg.steps
+abbrev pub assigned_steps : Assignment → ℕ
+assigned_steps assignment = assignment.leg.steps
 
 abbrev pub running_steps : RunningLeg → ℕ
-running_steps r = turn_steps r.turn
+running_steps r = assigned_steps r.assignment
 
 -- the steps that no leg of these improvements has got
 abbrev pub steps_left : Series → ℕ
@@ -95,7 +95,7 @@ steps_left s = s.policy.left + s.later
 
 -- the steps that no leg has taken yet: those of the legs in line, and those that no leg has got
 abbrev pub left_in : Line → ℕ
-left_in line = steps_left line.series + sum_by turn_steps (turns_of line)
+left_in line = steps_left line.series + sum_by assigned_steps (assignments_of line)
 
 -- what is in line and what comes after it may go on after these legs
 pub record IsLine (start : Book) (legs : List LegRun) (line : Line) : Type 0 where
@@ -106,4 +106,4 @@ pub record IsLine (start : Book) (legs : List LegRun) (line : Line) : Type 0 whe
 -- a leg that waits, with this number as its stream
 abbrev pub waiting_for : ℕ → ℕ → Leg → Beginning → WaitingLeg
 waiting_for stream bout leg b =
-    record { turn = record { chain = b.chain; bout = bout; leg = leg }; stream = stream; weight = b.weight; board = b.board }
+    record { assignment = record { chain = b.chain; bout = bout; leg = leg }; stream = stream; weight = b.weight; board = b.board }

@@ -1,7 +1,7 @@
 -- What all legs share.
 use Rattle.std.specs.Prelude.{◌≡◌, ◌≤◌}
 use Rattle.league.specs.League.{teams, IsLeague}
-use Rattle.policy.specs.Limits.{most_effort}
+use Rattle.policy.specs.Limits.{max_effort}
 use Rattle.search.specs.Draws.{AreRoundsOf}
 use Rattle.annealing.specs.Walks.{IsUnitOf}
 use Rattle.improvement.specs.declared.setting.Setting.{Setting}
@@ -11,7 +11,7 @@ use Rattle.improvement.specs.Legs.{IsWorkers, room_of}
 pub record IsSetting {T G : Type 0} (s : Setting T G) : Type 0 where
   pub league : IsLeague s.start.now.league
   pub workers : IsWorkers s.plan
-  pub effort : s.plan.effort ≤ most_effort
+  pub effort : s.plan.effort ≤ max_effort
   pub unit : IsUnitOf s.start.now.league s.unit
   pub rounds : AreRoundsOf (teams s.start.now.league) s.rounds.now
   pub room : s.start.now.room ≡ room_of s.plan.effort

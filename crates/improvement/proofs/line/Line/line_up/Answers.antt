@@ -1,6 +1,6 @@
 use Rattle.std.proofs.Common.{◌++◌, ◌∙◌, ap, append_assoc, List}
-use Rattle.improvement.specs.declared.legs.Turn.{Turn}
-use Rattle.improvement.specs.within.Lines.{turns_of}
+use Rattle.improvement.specs.declared.legs.Assignment.{Assignment}
+use Rattle.improvement.specs.within.Lines.{assignments_of}
 use Rattle.improvement.proofs.line.Line.line_up.Goals as goal
 
 pub loop-bout-preserved : goal.loop-bout-preserved
@@ -9,10 +9,10 @@ loop-bout-preserved c =
     let now = c.in_ok-line_up_bout.ensures in
     record {
       line = λ start legs line. now.line start legs (was.line start legs line);
-      turns = (
-        was.turns.0 ++ now.turns.0,
-        now.turns.1 ∙ ap (λ (turns : List Turn). turns ++ now.turns.0) was.turns.1 ∙
-            append_assoc (turns_of c.args.self.now) was.turns.0 now.turns.0,
+      assignments = (
+        was.assignments.0 ++ now.assignments.0,
+        now.assignments.1 ∙ ap (λ (assignments : List Assignment). assignments ++ now.assignments.0) was.assignments.1 ∙
+            append_assoc (assignments_of c.args.self.now) was.assignments.0 now.assignments.0,
       );
       left = now.left ∙ was.left;
     }

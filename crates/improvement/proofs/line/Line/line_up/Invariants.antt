@@ -1,14 +1,14 @@
 use Rattle.std.proofs.Common.{◌≡◌, ◌++◌, ◌-◌, List}
 use Rattle.fixture_board.specs.Record.{Book}
-use Rattle.improvement.specs.declared.legs.Turn.{Turn}
+use Rattle.improvement.specs.declared.legs.Assignment.{Assignment}
 use Rattle.improvement.specs.Legs.{LegRun}
-use Rattle.improvement.specs.within.Lines.{IsLine, left_in, turns_of}
+use Rattle.improvement.specs.within.Lines.{IsLine, left_in, assignments_of}
 use Rattle.improvement.proofs.line.Line.line_up.Given as goal
 
 abbrev pub invariant-loop-bout : goal.invariant-loop-bout
 invariant-loop-bout l = record {
   line : (start : Book) (legs : List LegRun) → IsLine start legs l.initial.self → IsLine start legs l.self;
-  turns : (more : List Turn) × (turns_of l.self ≡ turns_of l.initial.self ++ more);
+  assignments : (more : List Assignment) × (assignments_of l.self ≡ assignments_of l.initial.self ++ more);
   left : left_in l.self ≡ left_in l.initial.self;
 }
 

@@ -1,6 +1,6 @@
 use Rattle.std.proofs.Common.{◌∙◌}
 use Rattle.improvement.specs.within.Lines.{waiting_for}
-use Rattle.improvement.proofs.Lines.{bout_lined, on_ok, turns_more}
+use Rattle.improvement.proofs.Lines.{bout_lined, on_ok, assignments_more}
 use Rattle.improvement.proofs.line.Line.line_up_bout.Goals as goal
 
 pub returns-clause-line : goal.returns-clause-line
@@ -9,10 +9,10 @@ returns-clause-line c = λ start legs line.
     c.in-Some.ensures.leg c.in_ok-beginning.ensures.beginning (c.wait.ensures.stage ∙ c.in_ok-beginning.ensures.stage) waiting
     c.wait.ensures.running) c.wait.ensures.waiting
 
-pub returns-clause-turns : goal.returns-clause-turns
-returns-clause-turns c =
+pub returns-clause-assignments : goal.returns-clause-assignments
+returns-clause-assignments c =
     on_ok c.wait.result (λ waiting. (
       _,
-      turns_more c.args.self.now c.wait.new.self (waiting_for c.args.self.now.series.lined c.args.bout c.in-Some.leg c.in_ok-beginning.beginning)
+      assignments_more c.args.self.now c.wait.new.self (waiting_for c.args.self.now.series.lined c.args.bout c.in-Some.leg c.in_ok-beginning.beginning)
           waiting c.wait.ensures.running,
     )) c.wait.ensures.waiting

@@ -24,10 +24,10 @@ returns-clause-leg g c = λ legs line.
 
 pub returns-clause-first : goal.returns-clause-first
 returns-clause-first g c =
-    front_more c.args.self.now c.fill.new.self c.run_first.new.self _ c.pop_front.result c.in_ok-fill.ensures.turns
-    c.in_ok-run_first.ensures.turns c.pop_front.ensures.items
+    front_more c.args.self.now c.fill.new.self c.run_first.new.self _ c.pop_front.result c.in_ok-fill.ensures.assignments
+    c.in_ok-run_first.ensures.assignments c.pop_front.ensures.items
 
 pub returns-clause-left : goal.returns-clause-left
 returns-clause-left g c =
     front_left c.args.self.now c.fill.new.self c.run_first.new.self _ c.pop_front.result c.in_ok-fill.ensures.left
-    c.in_ok-run_first.ensures.turns c.in_ok-run_first.ensures.series c.pop_front.ensures.items
+    c.in_ok-run_first.ensures.assignments c.in_ok-run_first.ensures.series c.pop_front.ensures.items

@@ -14,7 +14,7 @@ loop-self-preserved g c =
     record {
       some = (was.some.0, line_run c.loop-self.self _ w r was.some.1 popped pushed refl (runs was.some.0));
       line = λ legs line. line_run c.loop-self.self _ w r (was.line legs line) popped pushed refl (runs legs);
-      turns = turns_run c.loop-self.self _ _ w r popped pushed c.in_ok-running.ensures.turn ∙ was.turns;
+      assignments = turns_run c.loop-self.self _ _ w r popped pushed c.in_ok-running.ensures.assignment ∙ was.assignments;
       series = was.series;
     }
 

@@ -1,14 +1,14 @@
 use Rattle.std.proofs.Common.{◌≡◌, List}
 use Rattle.std.specs.VecDeque.{deque_len}
 use Rattle.improvement.specs.Legs.{LegRun}
-use Rattle.improvement.specs.within.Lines.{IsLine, turns_of}
+use Rattle.improvement.specs.within.Lines.{IsLine, assignments_of}
 use Rattle.improvement.proofs.line.Line.run_first.Given as goal
 
 abbrev pub invariant-loop-self : goal.invariant-loop-self
 invariant-loop-self g l = record {
   some : (legs : List LegRun) × IsLine l.setting.start.now legs l.self;
   line : (legs : List LegRun) → IsLine l.setting.start.now legs l.initial.self → IsLine l.setting.start.now legs l.self;
-  turns : turns_of l.self ≡ turns_of l.initial.self;
+  assignments : assignments_of l.self ≡ assignments_of l.initial.self;
   series : l.self.series ≡ l.initial.self.series;
 }
 
