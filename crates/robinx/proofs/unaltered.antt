@@ -2,6 +2,7 @@
 pub mod SeesSame
 pub mod LookedPast
 pub mod AroundMain
+pub mod AroundOwn
 pub mod ToldApart
 pub mod Untouched
 pub mod NoPart

@@ -1,6 +1,6 @@
 //! The teams of which a change around some teams can alter the games that count.
 
-ghost use Rattle.std.specs.Prelude.{◌≡◌, ℕ, ◌<◌, ◌≤◌, ◌&&◌, ◌||◌};
+ghost use Rattle.std.specs.Prelude.{◌≡◌, ℕ, ◌<◌, ◌≤◌, ◌&&◌, ◌||◌, ◌==◌};
 ghost use Rattle.league.specs.Limits.{max_teams};
 ghost use Rattle.league.specs.Sets.{has, IsBelow};
 ghost use Rattle.fixtures.specs.Games.{round_count, cell, IsPair, IsDoubleRoundRobin};
@@ -9,6 +9,9 @@ ghost use Rattle.robinx.specs.Parts.{is_guest, meet_in, counts_otherwise};
 use crate::looked_past::takes_all_or_none;
 use fixtures::Schedule;
 use league::{SlotSet, TeamSet};
+
+/// Of up to so many teams the own games are looked at, which takes fewer instructions there.
+const FEW_TEAMS: u32 = 4;
 
 /// A change around some teams: in the rounds the main teams get other games, and only side teams may change their sides.
 #[derive(Clone, Copy, Drop)]
@@ -39,8 +42,64 @@ pub(crate) fn teams_otherwise(
     }
 }
 
-/// The teams, of these, that are main teams or guests, found by the games of the main teams.
+/// The teams, of these, that are main teams or guests.
 fn teams_around(schedule: &Schedule, main: TeamSet, rounds: SlotSet, teams: TeamSet) -> TeamSet
+    requires round_robin { IsDoubleRoundRobin schedule.now }
+    requires teams { IsBelow schedule.now.teams teams }
+    ensures members { (t : ℕ) → has result t ≡
+        (has teams t && (has main t || is_guest schedule.now (has main) (has rounds) t)) }
+    ensures below { IsBelow schedule.now.teams result }
+{
+    if teams.len() <= FEW_TEAMS {
+        around_own(schedule, main, rounds, teams)
+    } else {
+        around_main(schedule, main, rounds, teams)
+    }
+}
+
+/// They are found by their own games.
+fn around_own(schedule: &Schedule, main: TeamSet, rounds: SlotSet, teams: TeamSet) -> TeamSet
+    requires round_robin { IsDoubleRoundRobin schedule.now }
+    requires teams { IsBelow schedule.now.teams teams }
+    ensures members { (t : ℕ) → has result t ≡
+        (has teams t && (has main t || is_guest schedule.now (has main) (has rounds) t)) }
+    ensures below { IsBelow schedule.now.teams result }
+{
+    let others = teams.difference(main);
+    let mut around = teams.intersection(main);
+    for team in others {
+        let guest = is_guest(schedule, main, rounds, team);
+        around = with_if(around, team, guest);
+    }
+    around
+}
+
+/// Whether the team meets a main team in one of the rounds.
+fn is_guest(schedule: &Schedule, main: TeamSet, rounds: SlotSet, team: u8) -> bool
+    requires team { team < schedule.now.teams }
+    requires round_robin { IsDoubleRoundRobin schedule.now }
+    ensures { result ≡ is_guest schedule.now (has main) (has rounds) team }
+{
+    let in_season = SlotSet::below(schedule.rounds()).intersection(rounds);
+    for round in in_season {
+        if meets_one_of(schedule, main, team, round) {
+            return true;
+        }
+    }
+    false
+}
+
+/// The set with the team added, if it belongs there.
+fn with_if(teams: TeamSet, team: u8, belongs: bool) -> TeamSet
+    requires { team < max_teams }
+    ensures members { (t : ℕ) → has result t ≡ ((t == team && belongs) || has teams t) }
+    ensures below { (m : ℕ) → IsBelow m teams → team < m → IsBelow m result }
+{
+    if belongs { teams.with(team) } else { teams }
+}
+
+/// They are found by the games of the main teams.
+fn around_main(schedule: &Schedule, main: TeamSet, rounds: SlotSet, teams: TeamSet) -> TeamSet
     requires round_robin { IsDoubleRoundRobin schedule.now }
     requires teams { IsBelow schedule.now.teams teams }
     ensures members { (t : ℕ) → has result t ≡

@@ -3,7 +3,7 @@ use Rattle.std.proofs.lemmas.Bool.{eqb-true}
 use Rattle.league.specs.Sets.{has, IsBelow}
 use Rattle.league.proofs.ForCallers.{lowest_below}
 use Rattle.robinx.proofs.unaltered.AroundMain.{around_none, around_more, around_all, all_around}
-use Rattle.robinx.proofs.around.teams_around.Goals as goal
+use Rattle.robinx.proofs.around.around_main.Goals as goal
 
 pub returns-then-eq-clause-members : goal.returns-then-eq-clause-members
 returns-then-eq-clause-members c =
