@@ -16,7 +16,9 @@ use crate::job::Job;
 use crate::number_args::{AT_MOST, HARD_WEIGHT};
 use crate::text_args::{DISTANCES, NAME, SYMMETRIC};
 use clap::{ArgMatches, Command};
-use distance_tables::{Symmetry, is_title};
+use distance_tables::Symmetry;
+use league::is_text_within;
+use league::limits::MAX_TITLE;
 use std::alloc::{AllocError, Global};
 
 pub(crate) fn league_command<'a>(alloc: Global) -> Result<Command<'a>, AllocError>
@@ -76,7 +78,7 @@ fn can_be_called(title: Option<&str>) -> bool
     ensures { result ≡ is_title (written title.entry) }
 {
     match title {
-        Some(title) => is_title(title),
+        Some(title) => is_text_within(title.as_bytes(), MAX_TITLE),
         None => true,
     }
 }

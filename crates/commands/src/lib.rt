@@ -16,7 +16,7 @@ mod start_command;
 mod verdict;
 
 pub use beginnings::Beginning;
-pub use distance_tables::{DistanceFault, Settings, Symmetry, is_title};
+pub use distance_tables::{DistanceFault, Settings, Symmetry};
 pub use fault::ProgramFault;
 pub use hints::hint_on;
 pub use improve_command::{improve, improve_from, improve_on};

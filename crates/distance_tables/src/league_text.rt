@@ -1,34 +1,24 @@
 //! The text of a league that is made of a table.
 
-ghost use Rattle.std.specs.Prelude.{◌≡◌, ◌++◌, codes, decimal, option_map, IfOk, IfSome, OnOk, Some, false};
+ghost use Rattle.std.specs.Prelude.{◌≡◌, ◌++◌, codes, decimal, option_map, IfOk, IfSome, OnOk, false};
 ghost use Rattle.std.specs.Str.{IsUtf8};
 ghost use Rattle.json.specs.Print.{quoted};
-ghost use Rattle.league.specs.Labels.{is_title};
 ghost use Rattle.league.specs.Views.{texts};
 ghost use Rattle.distance_tables.specs.LeagueText.{league_text, names_text, numbers_text, row_text, rows_text, said_by, setting_text, title_text};
 ghost use Rattle.distance_tables.specs.within.Views.{number_rows};
 
-use crate::names::has_name_bytes;
-use league::limits::MAX_TITLE;
 use serde_json::Value;
 use std::alloc::{AllocError, Global};
 
 /// The settings of a league beside its teams and distances, if anything is to be said.
 #[derive(Clone, Copy, Debug, Default, PartialEq, Eq)]
 pub struct Settings<'a> {
-    /// The name of the league, as [`is_title`] has it.
+    /// The name of the league: 1 to 80 bytes, none of them a control byte.
     pub title: Option<&'a str>,
     /// How many rounds in a row a team may play at home, or away: 1 to 78.
     pub at_most: Option<u64>,
     /// The weight of each breach of a hard limit in a score: 1 to 1000000.
     pub hard_weight: Option<u64>,
-}
-
-/// Whether a league can be called so: 1 to 80 bytes, none of them a control byte.
-pub fn is_title(text: &str) -> bool
-    ensures { result ≡ is_title (Some text.now) }
-{
-    (1..=MAX_TITLE).contains(&text.len()) && has_name_bytes(text.as_bytes())
 }
 
 /// The text, with a row of distances a line.

@@ -12,6 +12,6 @@ mod sides;
 mod table;
 
 pub use fault::{Asymmetry, CellFault, DistanceFault, PlaceFault};
-pub use league_text::{Settings, is_title};
+pub use league_text::Settings;
 pub use sides::Symmetry;
 pub use table::{MadeLeague, league_from_table};

@@ -1,8 +1,6 @@
 //! The names of the first row.
 
 ghost use Rattle.std.specs.Prelude.{◌≡◌, ◌+◌, ◌<◌, ◌≤◌, ◌^◌, length, IfOk, string_bytes, false};
-ghost use Rattle.std.specs.List.{list_all};
-ghost use Rattle.league.specs.LeagueMembers.{is_name_byte, is_team_name};
 ghost use Rattle.league.specs.Views.{texts};
 ghost use Rattle.schedule_tables.specs.Cells.{cells, cells_left};
 ghost use Rattle.distance_tables.specs.Names.{league_name, name_in, names_from, names_of};
@@ -10,6 +8,7 @@ ghost use Rattle.distance_tables.specs.Reading.{cell_fault, placed};
 ghost use Rattle.distance_tables.specs.within.Reading.{Gives};
 
 use crate::fault::{CellFault, DistanceFault, PlaceFault};
+use league::is_text_within;
 use league::limits::MAX_NAME;
 use schedule_tables::{MARK, next_cell, unmarked};
 use std::alloc::{AllocError, Global};
@@ -45,26 +44,13 @@ pub(crate) fn name_in(alloc: Global, cell: &[u8]) -> Result<Vec<u8>, AllocError>
     Ok(name)
 }
 
-fn is_team_name(name: &[u8]) -> bool
-    ensures { result ≡ is_team_name name.now }
-{
-    (1..=MAX_NAME).contains(&name.len()) && has_name_bytes(name)
-}
-
-/// Whether none of the bytes is a control byte.
-pub(crate) fn has_name_bytes(name: &[u8]) -> bool
-    ensures { result ≡ list_all is_name_byte name.now }
-{
-    name.iter().all(|b| *b >= 32 && *b != 127)
-}
-
 #[tactic(auto, using(crate::proofs::Naming::named, crate::proofs::Naming::unnamed))]
 fn team_name(alloc: Global, line: u64, column: usize, cell: &[u8]) -> Result<String, DistanceFault>
     requires { column < 2 ^ 63 }
     ensures { Gives string_bytes result (placed line column (league_name (name_in cell.now))) }
 {
     let name = name_in(alloc, cell)?;
-    if !is_team_name(&name) {
+    if !is_text_within(&name, MAX_NAME) {
         return Err(cell_fault(line, column, CellFault::NoName));
     }
     match str::from_utf8(&name) {

@@ -1,7 +1,7 @@
 //! Tables, and the leagues that they give.
 
 use super::checks::check_same;
-use distance_tables::{Settings, Symmetry, is_title, league_from_table};
+use distance_tables::{Settings, Symmetry, league_from_table};
 use league::read_league;
 use std::alloc::Global;
 use std::process::Abort;
@@ -114,25 +114,5 @@ fn names_and_terms_are_said(rt: HostRuntime) -> Result<(), Fail> {
     let said = (league.name(0), league.at_most(), league.hard_weight());
     check_same(&rt, &said, &("a \"b\"", 2, 1_000_000));
     check_same(&rt, &league.title(), &Some("Cup \"\u{fc}\""));
-    Ok(())
-}
-
-/// A text of 80 bytes.
-const LONGEST: &str =
-    "12345678901234567890123456789012345678901234567890123456789012345678901234567890";
-
-#[test]
-fn titles_have_limits(rt: HostRuntime) -> Result<(), Fail> {
-    let longer = format!(in rt.alloc(); "{LONGEST}1")?;
-    let test = [
-        is_title("a"),
-        is_title("\u{fc} \"b\""),
-        is_title(LONGEST),
-        is_title(longer.as_str()),
-        is_title(""),
-        is_title("a\tb"),
-        is_title("\u{7f}"),
-    ];
-    check_same(&rt, &test, &[true, true, true, false, false, false, false]);
     Ok(())
 }
