@@ -1,6 +1,6 @@
 //! The stretches of each team at home or away that are longer than the league allows.
 
-ghost use Rattle.std.specs.Prelude.{◌≡◌, ◌+◌, ◌++◌, ◌<◌, ◌≤◌, if◌then◌else◌, IfOk, OnOk};
+ghost use Rattle.std.specs.Prelude.{◌≡◌, ◌+◌, ◌++◌, ◌<◌, ◌≤◌, IfOk, OnOk};
 ghost use Rattle.fixtures.specs.Games.{round_count};
 ghost use Rattle.league.specs.Limits.{max_rounds};
 ghost use Rattle.serde_json.specs.View.{view};
@@ -9,9 +9,9 @@ ghost use Rattle.json_reports.specs.Sides.{run_at, run_data, runs_data, runs_of,
 
 use crate::parts::push_value;
 use fixtures::Schedule;
+use reports::{Stretch, windows_ended};
 use serde_json::{Value, json};
 use std::alloc::{AllocError, Global};
-use tours::windows_spent;
 
 pub(crate) fn runs_value(
     alloc: Global,
@@ -29,16 +29,7 @@ pub(crate) fn runs_value(
     Ok(Value::from(runs))
 }
 
-/// A stretch of a team: so many windows, the last of which begins with the round before this one.
-#[derive(Clone, Copy)]
-struct Stretch {
-    team: u8,
-    round: u8,
-    windows: u8,
-}
-
 /// A stretch is added at the round with which no window of it begins any more.
-#[tactic(auto, using(reports::proofs::Streaks::streak_within))]
 fn push_runs_of(
     alloc: Global,
     runs: &mut Vec<Value>,
@@ -51,34 +42,16 @@ fn push_runs_of(
     requires team { team < schedule.now.teams }
     ensures { OnOk result (seen runs.new.items ≡ seen runs.old.items ++ runs_of schedule.now at_most team) }
 {
-    let begun = windows_spent(schedule, at_most + 1, team);
-    let mut streak: u8 = 0;
     for round in 0..schedule.rounds() {
-        let goes_on = begun.has(round);
-        let windows = ended(goes_on, streak);
+        let windows = windows_ended(schedule, at_most, team, round);
         let stretch = Stretch {
             team,
             round,
             windows,
         };
         push_run(alloc, runs, schedule, at_most, stretch)?;
-        streak = lengthened(goes_on, streak);
     }
     Ok(())
-}
-
-/// How many windows a stretch has that ends here.
-fn ended(goes_on: bool, streak: u8) -> u8
-    ensures { result ≡ (if goes_on then 0 else streak) }
-{
-    if goes_on { 0 } else { streak }
-}
-
-fn lengthened(goes_on: bool, streak: u8) -> u8
-    requires { streak < 255 }
-    ensures { result ≡ (if goes_on then streak + 1 else 0) }
-{
-    if goes_on { streak + 1 } else { 0 }
 }
 
 /// Adds the stretch, unless it has no window.

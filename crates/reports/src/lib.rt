@@ -12,3 +12,4 @@ mod runs;
 
 pub use laws::figures_add_up;
 pub use report::{is_feasible, write_report};
+pub use runs::{Stretch, windows_ended};

@@ -6,6 +6,7 @@ ghost use Rattle.fixtures.specs.Games.{round_count};
 ghost use Rattle.streams.specs.Pieces.{pieces_below};
 ghost use Rattle.streams.specs.Writing.{Writes};
 ghost use Rattle.reports.specs.CostText.{side_word};
+ghost use Rattle.reports.specs.Runs.{ended_streak, is_over};
 ghost use Rattle.reports.specs.within.CostText.{run_line, run_lines};
 
 use fixtures::Schedule;
@@ -32,14 +33,13 @@ pub(crate) fn write_runs<W: Sink>(
 
 /// A stretch of a team: so many windows, the last of which begins with the round before this one.
 #[derive(Clone, Copy)]
-struct Stretch {
-    team: u8,
-    round: u8,
-    windows: u8,
+pub struct Stretch {
+    pub team: u8,
+    pub round: u8,
+    pub windows: u8,
 }
 
 /// A stretch is written at the round with which no window of it begins any more.
-#[tactic(auto, using(crate::proofs::Streaks::streak_within))]
 fn write_runs_of<W: Sink>(
     out: &mut BufferedSink<'_, W>,
     schedule: &Schedule,
@@ -51,27 +51,37 @@ fn write_runs_of<W: Sink>(
     requires team { team < schedule.now.teams }
     ensures { Writes W.held W.tally out.old out.new result (run_lines schedule.now at_most team) }
 {
-    let begun = windows_spent(schedule, at_most + 1, team);
-    let mut streak: u8 = 0;
     for round in 0..schedule.rounds() {
-        let goes_on = begun.has(round);
-        let windows = ended(goes_on, streak);
+        let windows = windows_ended(schedule, at_most, team, round);
         let stretch = Stretch {
             team,
             round,
             windows,
         };
         write_run(out, schedule, at_most, stretch)?;
-        streak = lengthened(goes_on, streak);
     }
     Ok(())
 }
 
-/// How many windows a stretch has that ends here.
-fn ended(goes_on: bool, streak: u8) -> u8
-    ensures { result ≡ (if goes_on then 0 else streak) }
+/// The windows of the team's stretch whose last one begins with the round before this one: 0 if there is no such stretch.
+#[tactic(auto, using(crate::proofs::Streaks::streak_within))]
+pub fn windows_ended(schedule: &Schedule, at_most: u8, team: u8, round: u8) -> u8
+    requires least { 1 ≤ at_most }
+    requires most { at_most ≤ max_rounds }
+    requires team { team < schedule.now.teams }
+    requires round { round < max_rounds }
+    ensures windows { result ≡ ended_streak (is_over schedule.now at_most team) round }
+    ensures few { result ≤ round }
 {
-    if goes_on { 0 } else { streak }
+    let begun = windows_spent(schedule, at_most + 1, team);
+    if begun.has(round) {
+        return 0;
+    }
+    let mut streak: u8 = 0;
+    for earlier in 0..round {
+        streak = lengthened(begun.has(earlier), streak);
+    }
+    streak
 }
 
 fn lengthened(goes_on: bool, streak: u8) -> u8
