@@ -1,2 +1,2 @@
-pub mod Gaps
+pub mod HomeTables
 pub mod Walked

@@ -8,14 +8,13 @@ ghost use Rattle.robinx.specs.Deviations.{deviation};
 ghost use Rattle.robinx.specs.Touches.{has_touched_team};
 
 use crate::around::Around;
-use crate::gap_table::GapTable;
-use crate::kept_gaps::KeptGaps;
+use crate::home_counts::HomeCounts;
 use fixtures::Schedule;
 use league::{SlotSet, TeamSet};
 
 /// In no slot do two of the teams have numbers of home games that are more than `most` apart.
 #[derive(Clone, Copy, Drop)]
-pub struct Fairness {
+pub(crate) struct Fairness {
     pub teams: TeamSet,
     pub slots: SlotSet,
     pub most: u32,
@@ -23,7 +22,7 @@ pub struct Fairness {
 
 impl Fairness {
     /// A rule of these teams and slots.
-    pub fn new(teams: TeamSet, slots: SlotSet, most: u32) -> Self
+    pub(crate) fn new(teams: TeamSet, slots: SlotSet, most: u32) -> Self
         ensures { result ≡ record { teams = teams; slots = slots; most = most } }
     {
         Fairness { teams, slots, most }
@@ -38,20 +37,16 @@ pub(crate) fn fa2(schedule: &Schedule, fairness: &Fairness) -> u64
     ensures { result ≡
         deviation schedule.now (RuleBody.Fa2 fairness.now.teams fairness.now.slots fairness.now.most) }
 {
-    let none = GapTable::new(schedule.teams(), fairness.slots);
-    let mut table = none;
-    table.follow(&none, schedule, fairness);
-    table.deviation(schedule, fairness)
+    HomeCounts::new().deviation(schedule, fairness)
 }
 
-/// `fa2` if the change can alter it: if one of the teams may change its sides. Then all of it, since with the kept gaps that takes less
-/// than the pairs of those teams alone.
+/// `fa2` if the change can alter it: if one of the teams may change its sides.
 #[tactic(auto, unfolding(crate::specs::Touches::has_touched_team))]
 pub(crate) fn fa2_part(
     schedule: &Schedule,
     change: &Around,
     fairness: &Fairness,
-    gaps: &mut KeptGaps,
+    counts: &mut HomeCounts,
 ) -> u64
     requires round_robin { IsDoubleRoundRobin schedule.now }
     requires teams { IsBelow schedule.now.teams fairness.now.teams }
@@ -60,7 +55,7 @@ pub(crate) fn fa2_part(
         deviation schedule.now (RuleBody.Fa2 fairness.now.teams fairness.now.slots fairness.now.most) else 0) }
 {
     if fairness.teams.intersects(change.sides) {
-        gaps.deviation(schedule, fairness)
+        counts.deviation(schedule, fairness)
     } else {
         0
     }

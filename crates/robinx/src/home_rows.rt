@@ -1,11 +1,11 @@
-//! Rows of home games: how many a team has up to and with each slot.
+//! Rows of home games: how many a team has up to and with each round.
 
-ghost use Rattle.std.specs.Prelude.{◌≡◌, ℕ, ◌+◌, ◌*◌, ◌<◌, ◌≤◌, length, slice_index};
+ghost use Rattle.std.specs.Prelude.{◌≡◌, ℕ, ◌+◌, ◌*◌, ◌<◌, ◌≤◌, max, min, length, slice_index};
 ghost use Rattle.league.specs.Limits.{max_rounds};
 ghost use Rattle.league.specs.Sets.{has, IsBelow};
 ghost use Rattle.robinx.specs.Deviations.{largest_below};
-ghost use Rattle.robinx.specs.within.Gaps.{IsHomeRow, is_home_with};
-ghost use Rattle.robinx.specs.within.Walked.{IsStep, apart_in, chunk_count, from_on, lane_count, one_in, row_length, worst_apart};
+ghost use Rattle.robinx.specs.within.HomeTables.{IsHomeRow, is_home_with};
+ghost use Rattle.robinx.specs.within.Walked.{IsStep, apart_in, chunk_count, from_on, lane_count, mask_in, row_length, worst_apart};
 
 use league::SlotSet;
 use league::limits::MAX_TEAMS;
@@ -24,9 +24,9 @@ pub(crate) type Row = [u8; ROW];
 
 /// 0 as long as a row is, and then 1 as long. A window on it, as long as a row, is 0 before a round and 1 from it on: so a row turns in a
 /// loop over all its rounds, of which the machine takes many at once.
-pub(crate) type Step = [u8; 2 * ROW];
+type Step = [u8; 2 * ROW];
 
-pub(crate) fn step() -> Step
+fn step() -> Step
     ensures { IsStep result }
 {
     let mut step = [0; 2 * ROW];
@@ -36,96 +36,113 @@ pub(crate) fn step() -> Step
     step
 }
 
-/// 1 for each round that is a slot, and 0 for each other.
-pub(crate) fn in_slots(slots: SlotSet, rounds: u8) -> Row
+/// The greatest number in each round that is a slot, and 0 in each other.
+pub(crate) fn mask_of(slots: SlotSet, rounds: u8) -> Row
     requires season { rounds ≤ max_rounds }
     requires slots { IsBelow rounds slots }
-    ensures { (r : ℕ) → slice_index result r ≡ one_in slots r }
+    ensures { (r : ℕ) → slice_index result r ≡ mask_in slots r }
 {
     let mut row = [0; ROW];
     for round in 0..rounds {
         if slots.has(round) {
-            row[usize::from(round)] = 1;
+            row[usize::from(round)] = u8::MAX;
         }
     }
     row
 }
 
 /// Makes the row, which is of home rounds that differ from these in the changed ones, one of these.
-pub(crate) fn turn(row: &mut Row, changed: SlotSet, homes: SlotSet, step: &Step, in_slots: &Row)
+pub(crate) fn turn(row: &mut Row, changed: SlotSet, homes: SlotSet)
     requires changed { IsBelow max_rounds changed }
-    requires step { IsStep step.now }
-    requires ones { (r : ℕ) → slice_index in_slots.now r ≤ 1 }
-    requires row { IsHomeRow in_slots.now (is_home_with homes changed) row.old }
-    ensures { IsHomeRow in_slots.now (has homes) row.new }
+    requires row { IsHomeRow (is_home_with homes changed) row.old }
+    ensures { IsHomeRow (has homes) row.new }
 {
+    let step = step();
     for round in changed {
         if homes.has(round) {
-            gain(row, round, step, in_slots);
+            gain(row, round, &step);
         } else {
-            lose(row, round, step, in_slots);
+            lose(row, round, &step);
         }
     }
 }
 
-/// Adds one in each slot from the first round on.
+/// Adds one in each round from the first on.
 #[inline]
-fn gain(row: &mut Row, first: u8, step: &Step, in_slots: &Row)
+fn gain(row: &mut Row, first: u8, step: &Step)
     requires first { first < row_length }
     requires step { IsStep step.now }
-    requires ones { (r : ℕ) → slice_index in_slots.now r ≤ 1 }
     requires len { length row.old ≡ row_length }
     requires room { (r : ℕ) → slice_index row.old r < 255 }
     ensures len { length row.new ≡ row_length }
-    ensures gained { (r : ℕ) → slice_index row.new r ≡ slice_index row.old r + from_on first in_slots.now r }
+    ensures gained { (r : ℕ) → r < row_length → slice_index row.new r ≡ slice_index row.old r + from_on first r }
 {
     let from = ROW - usize::from(first);
     for round in 0..ROW {
-        row[round] += step[from + round] & in_slots[round];
+        row[round] += step[from + round];
     }
 }
 
-/// Takes one away in each slot from the first round on.
+/// Takes one away in each round from the first on.
 #[inline]
-fn lose(row: &mut Row, first: u8, step: &Step, in_slots: &Row)
+fn lose(row: &mut Row, first: u8, step: &Step)
     requires first { first < row_length }
     requires step { IsStep step.now }
-    requires ones { (r : ℕ) → slice_index in_slots.now r ≤ 1 }
     requires len { length row.old ≡ row_length }
-    requires some { (r : ℕ) → from_on first in_slots.now r ≤ slice_index row.old r }
+    requires some { (r : ℕ) → r < row_length → from_on first r ≤ slice_index row.old r }
     ensures len { length row.new ≡ row_length }
-    ensures lost { (r : ℕ) → slice_index row.new r + from_on first in_slots.now r ≡ slice_index row.old r }
+    ensures lost { (r : ℕ) → r < row_length → slice_index row.new r + from_on first r ≡ slice_index row.old r }
 {
     let from = ROW - usize::from(first);
     for round in 0..ROW {
-        row[round] -= step[from + round] & in_slots[round];
+        row[round] -= step[from + round];
     }
 }
 
-/// The largest number by which the rows are apart in a round. Each lane is followed through its rounds, so that the machine has all lanes
-/// at once and no loop over chunks.
+/// Raises each number to the other row's, if it is lower.
 #[inline]
-pub(crate) fn worst_apart(first: &Row, second: &Row) -> u8
-    ensures { result ≡ worst_apart first.now second.now }
+pub(crate) fn raise(row: &mut Row, other: &Row)
+    ensures { (r : ℕ) → r < row_length → slice_index row.new r ≡ max (slice_index row.old r) (slice_index other.now r) }
+{
+    for round in 0..ROW {
+        row[round] = row[round].max(other[round]);
+    }
+}
+
+/// Lowers each number to the other row's, if it is higher.
+#[inline]
+pub(crate) fn lower(row: &mut Row, other: &Row)
+    ensures { (r : ℕ) → r < row_length → slice_index row.new r ≡ min (slice_index row.old r) (slice_index other.now r) }
+{
+    for round in 0..ROW {
+        row[round] = row[round].min(other[round]);
+    }
+}
+
+/// The largest number by which the rows are apart in a round, at most the mask's. Each lane is followed through its rounds, so that the
+/// machine has all lanes at once and no loop over chunks.
+#[inline]
+pub(crate) fn worst_apart(mask: &Row, first: &Row, second: &Row) -> u8
+    ensures { result ≡ worst_apart mask.now first.now second.now }
 {
     let mut largest = 0;
     for lane in 0..LANES {
-        largest = largest.max(worst_in_lane(first, second, lane));
+        largest = largest.max(worst_in_lane(mask, first, second, lane));
     }
     largest
 }
 
 /// The largest number by which the rows are apart in the rounds of a lane: one of each chunk, as far on in it.
 #[inline]
-fn worst_in_lane(first: &Row, second: &Row, lane: usize) -> u8
+fn worst_in_lane(mask: &Row, first: &Row, second: &Row, lane: usize) -> u8
     requires { lane < lane_count }
-    ensures { result ≡ largest_below chunk_count (λ chunk. apart_in first.now second.now (chunk * lane_count + lane)) }
+    ensures { result ≡ largest_below chunk_count (λ chunk. apart_in mask.now first.now second.now (chunk * lane_count + lane)) }
 {
     let mut largest = 0;
     for chunk in 0..ROW / LANES {
         let round = chunk * LANES + lane;
         let apart = first[round].max(second[round]) - first[round].min(second[round]);
-        largest = largest.max(apart);
+        largest = largest.max(apart.min(mask[round]));
     }
     largest
 }

@@ -16,7 +16,7 @@ use crate::counted_games::{Capacity, CountedGames};
 use crate::deviations::deviation;
 use crate::fairness_rules::{Fairness, fa2_part};
 use crate::game_rules::has_moved_game;
-use crate::kept_gaps::KeptGaps;
+use crate::home_counts::HomeCounts;
 use crate::separation_rules::se1_part;
 use crate::touched_rules::can_alter;
 use fixtures::{Schedule, Touched};
@@ -25,14 +25,14 @@ use league::{Rule, RuleBody, TeamSet};
 /// The part of the rule's [`deviation`](crate::deviation) that a change can alter: `main` has the teams that get other
 /// games and the rounds in which anything changes, and `sides` the teams that may change their sides. Other teams keep
 /// their games, but that one may meet another main team than before. What the change adds to the part, it adds to the
-/// deviation ([`deviations_balance`](crate::deviations_balance)). What FA2 counts is kept in `gaps`, for the next rule and schedule.
+/// deviation ([`deviations_balance`](crate::deviations_balance)). What FA2 counts is kept in `counts`, for the next rule and schedule.
 #[tactic(auto, unfolding(crate::specs::Parts::deviation_part))]
 pub fn deviation_part(
     schedule: &Schedule,
     rule: &Rule,
     main: Touched,
     sides: TeamSet,
-    gaps: &mut KeptGaps,
+    counts: &mut HomeCounts,
 ) -> u64
     requires { IsBodyFor schedule.now.teams rule.now.body }
     ensures value { result ≡ deviation_part schedule.now main.teams main.rounds sides rule.now.body }
@@ -47,12 +47,12 @@ pub fn deviation_part(
         rounds: main.rounds,
         sides,
     };
-    changing_terms(schedule, rule, &change, gaps)
+    changing_terms(schedule, rule, &change, counts)
 }
 
 /// The part for a rule whose deviation a change in its rounds can alter.
 #[tactic(auto, unfolding(crate::specs::Parts::changing_terms))]
-fn changing_terms(schedule: &Schedule, rule: &Rule, change: &Around, gaps: &mut KeptGaps) -> u64
+fn changing_terms(schedule: &Schedule, rule: &Rule, change: &Around, counts: &mut HomeCounts) -> u64
     requires body { IsBodyFor schedule.now.teams rule.now.body }
     requires round_robin { IsDoubleRoundRobin schedule.now }
     ensures { result ≡ changing_terms schedule.now change.now.main change.now.rounds change.now.sides rule.now.body }
@@ -101,7 +101,7 @@ fn changing_terms(schedule: &Schedule, rule: &Rule, change: &Around, gaps: &mut 
         RuleBody::Se1 { teams, min } => se1_part(schedule, *teams, change, *min),
         RuleBody::Fa2 { teams, slots, most } => {
             let fairness = Fairness::new(*teams, *slots, *most);
-            fa2_part(schedule, change, &fairness, gaps)
+            fa2_part(schedule, change, &fairness, counts)
         }
     }
 }

@@ -19,6 +19,12 @@ largest_below_le zero most f each = omega arith
 largest_below_le (suc n) most f each =
     omega (arith, largest_below_le n most f (λ k below. each k (omega arith)), each n (omega arith))
 
+pub largest_below_le_each : (n : ℕ) (f g : ℕ → ℕ) → ((k : ℕ) → k < n → f k ≤ g k) → largest_below n f ≤ largest_below n g
+unfolding largest_below
+largest_below_le_each zero f g each = omega arith
+largest_below_le_each (suc n) f g each =
+    omega (arith, largest_below_le_each n f g (λ k below. each k (omega arith)), each n (omega arith))
+
 pub largest_below_none : (f : ℕ → ℕ) → largest_below 0 f ≡ 0
 unfolding largest_below
 largest_below_none f = refl

@@ -1,8 +1,7 @@
 -- Rows of home games, a number for each round: how one turns, and by how much two of them are apart.
-use Rattle.std.proofs.Common.{◌≡◌, ◌≢◌, ℕ, zero, suc, ◌+◌, ◌*◌, ◌<◌, ◌≤◌, ◌==◌, not, nat_lt, Bool, true, false, if◌then◌else◌}
+use Rattle.std.proofs.Common.{◌≡◌, ◌≢◌, ℕ, zero, suc, ◌+◌, ◌<◌, ◌≤◌, ◌&&◌, ◌==◌, not, nat_lt, Bool, true, false, if◌then◌else◌}
 use Rattle.std.proofs.Common.{List, length, get_or, refl, sym, ◌∙◌, ap, inl, inr, arith}
 use Rattle.std.proofs.Math.ListN.{get_or-eq_default}
-use Rattle.std.proofs.Math.Nat.{mul-le-mul_right}
 use Rattle.std.proofs.lemmas.Bool.{cases_eq, cases_lt, cond-true, cond-false, eq-eqb, ne_eqb, lt-ltb, le-ltb}
 use Rattle.league.specs.Limits.{max_rounds}
 use Rattle.league.specs.Sets.{has, IsBelow}
@@ -12,8 +11,8 @@ use Rattle.league.proofs.ForCallers.{count_where_le, count_where_same, has_beyon
 use Rattle.league.proofs.ForCallers.{sum_below_add, sum_below_only, sum_below_same}
 use Rattle.fixtures.specs.Games.{Games, round_count, is_home}
 use Rattle.robinx.specs.Deviations.{over, home_games, largest_below, gap, worst_gap}
-use Rattle.robinx.specs.within.Gaps.{IsHomeRow, is_home_with}
-use Rattle.robinx.specs.within.Walked.{apart_in, from_on, one_in, worst_apart, row_length}
+use Rattle.robinx.specs.within.HomeTables.{IsHomeRow, is_home_with}
+use Rattle.robinx.specs.within.Walked.{apart_in, from_on, mask_in, worst_apart, row_length}
 use Rattle.robinx.proofs.limits.Largest.{largest_below_same, largest_below_past}
 
 -- how much the largest is over the most is the largest of what each is over it
@@ -22,26 +21,15 @@ unfolding largest_below
 over_largest zero most f = omega arith
 over_largest (suc n) most f = omega (arith, over_largest n most f)
 
--- a number of a row that tells its slots
-pub number_in : (slots r : ℕ) (home : ℕ → Bool) (in_slots row : List ℕ) → ((k : ℕ) → get_or in_slots k 0 ≡ one_in slots k) →
-    IsHomeRow in_slots home row → get_or row r 0 ≡ (if has slots r then count_where (r + 1) home else 0)
-number_in slots r home in_slots row ones is =
-    is.counts r ∙ ap (λ n. n * count_where (r + 1) home) (ones r) ∙ times (has slots r) (count_where (r + 1) home)
-  where
-    times : (b : Bool) (n : ℕ) → (if b then 1 else 0) * n ≡ (if b then n else 0)
-    times true n = omega arith
-    times false n = omega arith
-
 -- the same row, of the same home rounds
-pub same_home_row : (in_slots row : List ℕ) (home other : ℕ → Bool) → ((r : ℕ) → home r ≡ other r) → IsHomeRow in_slots home row →
-    IsHomeRow in_slots other row
-same_home_row in_slots row home other same is = record {
+pub same_home_row : (row : List ℕ) (home other : ℕ → Bool) → ((r : ℕ) → home r ≡ other r) → IsHomeRow home row → IsHomeRow other row
+same_home_row row home other same is = record {
   len = is.len;
-  counts = λ r. is.counts r ∙ ap (λ n. get_or in_slots r 0 * n) (count_where_same (r + 1) home other (λ k below. same k));
+  counts = λ r in_row. is.counts r in_row ∙ count_where_same (r + 1) home other (λ k below. same k);
 }
 
 -- with one home game more
-module _ (in_slots : List ℕ) (first : ℕ) (fewer more : ℕ → Bool) (away : fewer first ≡ false) (home : more first ≡ true)
+module _ (first : ℕ) (fewer more : ℕ → Bool) (away : fewer first ≡ false) (home : more first ≡ true)
     (others : (k : ℕ) → k ≢ first → more k ≡ fewer k) where
   one_more : (n : ℕ) → first < n → count_where n more ≡ count_where n fewer + 1
   one_more n below =
@@ -72,77 +60,61 @@ module _ (in_slots : List ℕ) (first : ℕ) (fewer more : ℕ → Bool) (away :
             )
       ]
 
-  more_from_on : (r : ℕ) →
-      get_or in_slots r 0 * count_where (r + 1) more ≡ get_or in_slots r 0 * count_where (r + 1) fewer + from_on first in_slots r
+  more_from_on : (r : ℕ) → count_where (r + 1) more ≡ count_where (r + 1) fewer + from_on first r
   more_from_on r = elim (cases_lt r first) [
     | inl before ↦
         omega (
           arith,
-          ap (λ n. get_or in_slots r 0 * n) (count_where_same (r + 1) more fewer (λ k below. others k (omega (arith, before, below)))),
-          cond-true {A = ℕ} (nat_lt r first) 0 (get_or in_slots r 0) (lt-ltb r first before),
+          count_where_same (r + 1) more fewer (λ k below. others k (omega (arith, before, below))),
+          cond-true {A = ℕ} (nat_lt r first) 0 1 (lt-ltb r first before),
         )
     | inr from ↦
-        omega (
-          arith,
-          ap (λ n. get_or in_slots r 0 * n) (one_more (r + 1) (omega (arith, from))),
-          parted (get_or in_slots r 0) (count_where (r + 1) fewer),
-          cond-false {A = ℕ} (nat_lt r first) 0 (get_or in_slots r 0) (le-ltb r first from),
-        )
+        omega (arith, one_more (r + 1) (omega (arith, from)), cond-false {A = ℕ} (nat_lt r first) 0 1 (le-ltb r first from))
   ]
-    where
-      parted : (a b : ℕ) → a * (b + 1) ≡ a * b + a
-      parted a b = omega arith
 
   pub gained_row : (row new : List ℕ) → length new ≡ row_length →
-      ((r : ℕ) → get_or new r 0 ≡ get_or row r 0 + from_on first in_slots r) → IsHomeRow in_slots fewer row → IsHomeRow in_slots more new
+      ((r : ℕ) → r < row_length → get_or new r 0 ≡ get_or row r 0 + from_on first r) → IsHomeRow fewer row → IsHomeRow more new
   gained_row row new len gained is = record {
     len = len;
-    counts = λ r. omega (arith, gained r, is.counts r, more_from_on r);
+    counts = λ r in_row. omega (arith, gained r in_row, is.counts r in_row, more_from_on r);
   }
 
   pub lost_row : (row new : List ℕ) → length new ≡ row_length →
-      ((r : ℕ) → get_or new r 0 + from_on first in_slots r ≡ get_or row r 0) → IsHomeRow in_slots more row → IsHomeRow in_slots fewer new
+      ((r : ℕ) → r < row_length → get_or new r 0 + from_on first r ≡ get_or row r 0) → IsHomeRow more row → IsHomeRow fewer new
   lost_row row new len lost is = record {
     len = len;
-    counts = λ r. omega (arith, lost r, is.counts r, more_from_on r);
+    counts = λ r in_row. omega (arith, lost r in_row, is.counts r in_row, more_from_on r);
   }
 
   -- what it can lose
-  pub counted_from_on : (row : List ℕ) → IsHomeRow in_slots more row → (r : ℕ) → from_on first in_slots r ≤ get_or row r 0
-  counted_from_on row is r = omega (arith, is.counts r, more_from_on r)
+  pub counted_from_on : (row : List ℕ) → IsHomeRow more row → (r : ℕ) → r < row_length → from_on first r ≤ get_or row r 0
+  counted_from_on row is r in_row = omega (arith, is.counts r in_row, more_from_on r)
 
 -- a row has room for more
-pub row_small : (in_slots row : List ℕ) (home : ℕ → Bool) → ((r : ℕ) → get_or in_slots r 0 ≤ 1) → IsHomeRow in_slots home row → (r : ℕ) →
-    get_or row r 0 < 255
-row_small in_slots row home ones is r = elim (cases_lt r row_length) [
-  | inl in_row ↦
-      omega (
-        arith,
-        is.counts r,
-        mul-le-mul_right (count_where (r + 1) home) (ones r),
-        count_where_le (r + 1) home,
-      )
+pub row_small : (row : List ℕ) (home : ℕ → Bool) → IsHomeRow home row → (r : ℕ) → get_or row r 0 < 255
+row_small row home is r = elim (cases_lt r row_length) [
+  | inl in_row ↦ omega (arith, is.counts r in_row, count_where_le (r + 1) home, in_row)
   | inr past ↦
       let beyond : length row ≤ r = omega (arith, is.len, past) in
       omega (arith, get_or-eq_default row 0 beyond)
 ]
 
 -- a loop over the rounds that changed has turned those that aren't left
-pub record HasTurned (in_slots row : List ℕ) (homes left : ℕ) : Type 0 where
+pub record HasTurned (row : List ℕ) (homes left : ℕ) : Type 0 where
   pub below : IsBelow max_rounds left
-  pub is : IsHomeRow in_slots (is_home_with homes left) row
+  pub is : IsHomeRow (is_home_with homes left) row
 
-pub turned_none : (in_slots row : List ℕ) (homes changed left : ℕ) → IsBelow max_rounds changed → left ≡ changed →
-    IsHomeRow in_slots (is_home_with homes changed) row → HasTurned in_slots row homes left
-turned_none in_slots row homes changed left below whole is = rw whole (record { below = below; is = is })
+pub turned_none : (row : List ℕ) (homes changed left : ℕ) → IsBelow max_rounds changed → left ≡ changed →
+    IsHomeRow (is_home_with homes changed) row → HasTurned row homes left
+turned_none row homes changed left below whole is = rw whole (record { below = below; is = is })
 
-pub turned_all : (in_slots row : List ℕ) (homes left : ℕ) → left ≡ 0 → HasTurned in_slots row homes left →
-    IsHomeRow in_slots (has homes) row
-turned_all in_slots row homes left none so_far =
-    same_home_row in_slots row (is_home_with homes left) (has homes)
+pub turned_all : (row : List ℕ) (homes left : ℕ) → left ≡ 0 → HasTurned row homes left →
+    IsHomeRow (has homes) row
+turned_all row homes left none so_far =
+    same_home_row row (is_home_with homes left) (has homes)
     (λ r. cond-false {A = Bool} (has left r) (not (has homes r)) (has homes r) (ap (λ s. has s r) none ∙ has_empty r)) so_far.is
 
-module _ (in_slots row : List ℕ) (homes left lowest rest : ℕ) (so_far : HasTurned in_slots row homes left)
+module _ (row : List ℕ) (homes left lowest rest : ℕ) (so_far : HasTurned row homes left)
     (taken : IsWithoutLowest left lowest rest) where
   as_before : is_home_with homes left lowest ≡ not (has homes lowest)
   as_before = cond-true {A = Bool} (has left lowest) (not (has homes lowest)) (has homes lowest) taken.in_set
@@ -158,24 +130,24 @@ module _ (in_slots row : List ℕ) (homes left lowest rest : ℕ) (so_far : HasT
   below_still = omega (arith, so_far.below, taken.fewer)
 
   pub turned_home : (new : List ℕ) → has homes lowest ≡ true → length new ≡ row_length →
-      ((r : ℕ) → get_or new r 0 ≡ get_or row r 0 + from_on lowest in_slots r) → HasTurned in_slots new homes rest
+      ((r : ℕ) → r < row_length → get_or new r 0 ≡ get_or row r 0 + from_on lowest r) → HasTurned new homes rest
   turned_home new home len gained = record {
     below = below_still;
-    is = gained_row in_slots lowest (is_home_with homes left) (is_home_with homes rest) (as_before ∙ ap not home) (as_after ∙ home)
+    is = gained_row lowest (is_home_with homes left) (is_home_with homes rest) (as_before ∙ ap not home) (as_after ∙ home)
         elsewhere row new len gained so_far.is;
   }
 
   pub turned_away : (new : List ℕ) → has homes lowest ≡ false → length new ≡ row_length →
-      ((r : ℕ) → get_or new r 0 + from_on lowest in_slots r ≡ get_or row r 0) → HasTurned in_slots new homes rest
+      ((r : ℕ) → r < row_length → get_or new r 0 + from_on lowest r ≡ get_or row r 0) → HasTurned new homes rest
   turned_away new away len lost = record {
     below = below_still;
-    is = lost_row in_slots lowest (is_home_with homes rest) (is_home_with homes left) (as_after ∙ away) (as_before ∙ ap not away)
+    is = lost_row lowest (is_home_with homes rest) (is_home_with homes left) (as_after ∙ away) (as_before ∙ ap not away)
         (λ k apart. sym (elsewhere k apart)) row new len lost so_far.is;
   }
 
-  pub turned_some : has homes lowest ≡ false → (r : ℕ) → from_on lowest in_slots r ≤ get_or row r 0
+  pub turned_some : has homes lowest ≡ false → (r : ℕ) → r < row_length → from_on lowest r ≤ get_or row r 0
   turned_some away =
-      counted_from_on in_slots lowest (is_home_with homes rest) (is_home_with homes left) (as_after ∙ away) (as_before ∙ ap not away)
+      counted_from_on lowest (is_home_with homes rest) (is_home_with homes left) (as_after ∙ away) (as_before ∙ ap not away)
       (λ k apart. sym (elsewhere k apart)) row so_far.is
 
 -- the rounds in which a team was at home, by those in which it turns
@@ -191,61 +163,45 @@ home_before before homes changed members r =
     twice false true = refl
     twice false false = refl
 
--- the same row, by a schedule
-pub row_of_schedule : (g : Games) (t home slots : ℕ) (in_slots row : List ℕ) → ((r : ℕ) → get_or in_slots r 0 ≡ one_in slots r) →
-    IsBelow (round_count g.teams) slots → ((r : ℕ) → r < round_count g.teams → has home r ≡ is_home g t r) →
-    IsHomeRow in_slots (has home) row → IsHomeRow in_slots (is_home g t) row
-row_of_schedule g t home slots in_slots row ones of_slots same is = record {
-  len = is.len;
-  counts = λ r. elim (cases_lt r (round_count g.teams)) [
-    | inl in_season ↦
-        is.counts r ∙
-        ap (λ n. get_or in_slots r 0 * n)
-        (count_where_same (r + 1) (has home) (is_home g t) (λ k until. same k (omega (arith, in_season, until))))
-    | inr past ↦
-        let none : get_or in_slots r 0 ≡ 0 =
-        ones r ∙ ap {B = ℕ} (λ b. if b then 1 else 0) (has_beyond (round_count g.teams) slots r of_slots past) in
-        is.counts r ∙ ap (λ n. n * count_where (r + 1) (has home)) none ∙
-        nothing (count_where (r + 1) (has home)) (count_where (r + 1) (is_home g t)) ∙
-        sym (ap (λ n. n * count_where (r + 1) (is_home g t)) none)
-  ];
-}
-  where
-    nothing : (a b : ℕ) → 0 * a ≡ 0 * b
-    nothing a b = omega arith
+-- the row of a schedule
+pub row_of_schedule : (g : Games) (t home : ℕ) (row : List ℕ) → round_count g.teams ≤ max_rounds →
+    ((r : ℕ) → has home r ≡ (nat_lt r (round_count g.teams) && is_home g t r)) → IsHomeRow (has home) row → (r : ℕ) →
+    r < round_count g.teams → get_or row r 0 ≡ home_games g t r
+unfolding home_games
+row_of_schedule g t home row season members is r in_season =
+    is.counts r (omega (arith, in_season, season)) ∙
+    count_where_same (r + 1) (has home) (is_home g t)
+    (λ k until.
+    members k ∙ ap (λ b. b && is_home g t k) (lt-ltb k (round_count g.teams) (omega (arith, in_season, until))))
 
-module _ (g : Games) (most i j slots : ℕ) (first second in_slots : List ℕ) (season : round_count g.teams ≤ max_rounds)
-    (of_slots : IsBelow (round_count g.teams) slots) (first_is : IsHomeRow in_slots (is_home g i) first)
-    (second_is : IsHomeRow in_slots (is_home g j) second) (ones : (r : ℕ) → get_or in_slots r 0 ≡ one_in slots r) where
-  in_season : (r : ℕ) → (if has slots r then gap g most i j r else 0) ≡ over (apart_in first second r) most
-  unfolding gap home_games
-  in_season r =
-      at (has slots r) (number_in slots r (is_home g i) in_slots first ones first_is)
-      (number_in slots r (is_home g j) in_slots second ones second_is)
+module _ (g : Games) (most i j slots : ℕ) (mask first second : List ℕ) (season : round_count g.teams ≤ max_rounds)
+    (of_slots : IsBelow (round_count g.teams) slots)
+    (first_is : (r : ℕ) → r < round_count g.teams → get_or first r 0 ≡ home_games g i r)
+    (second_is : (r : ℕ) → r < round_count g.teams → get_or second r 0 ≡ home_games g j r)
+    (masks : (r : ℕ) → get_or mask r 0 ≡ mask_in slots r) where
+  small : (t r : ℕ) → r < round_count g.teams → home_games g t r ≤ max_rounds
+  unfolding home_games
+  small t r below = omega (arith, count_where_le (r + 1) (is_home g t), below, season)
+
+  in_season : (r : ℕ) → r < round_count g.teams →
+      (if has slots r then gap g most i j r else 0) ≡ over (apart_in mask first second r) most
+  unfolding gap
+  in_season r below = at (has slots r) (masks r)
     where
-      at : (b : Bool) → get_or first r 0 ≡ (if b then count_where (r + 1) (is_home g i) else 0) →
-          get_or second r 0 ≡ (if b then count_where (r + 1) (is_home g j) else 0) →
-          (if b then gap g most i j r else 0) ≡ over (apart_in first second r) most
-      at true first_has second_has = omega (arith, first_has, second_has)
-      at false first_has second_has = omega (arith, first_has, second_has)
+      at : (b : Bool) → get_or mask r 0 ≡ (if b then 255 else 0) → (if b then gap g most i j r else 0) ≡ over (apart_in mask first second r) most
+      at true all = omega (arith, all, first_is r below, second_is r below, small i r below, small j r below)
+      at false none = omega (arith, none)
 
-  past_season : (r : ℕ) → round_count g.teams ≤ r → apart_in first second r ≡ 0
+  past_season : (r : ℕ) → round_count g.teams ≤ r → apart_in mask first second r ≡ 0
   past_season r past =
-      let out : has slots r ≡ false = has_beyond (round_count g.teams) slots r of_slots past in
-      omega (
-        arith,
-        number_in slots r (is_home g i) in_slots first ones first_is,
-        number_in slots r (is_home g j) in_slots second ones second_is,
-        cond-false {A = ℕ} (has slots r) (count_where (r + 1) (is_home g i)) 0 out,
-        cond-false {A = ℕ} (has slots r) (count_where (r + 1) (is_home g j)) 0 out,
-      )
+      omega (arith, masks r, cond-false {A = ℕ} (has slots r) 255 0 (has_beyond (round_count g.teams) slots r of_slots past))
 
   -- two rows tell the worst gap of their teams
-  pub worst_gap_of_rows : over (worst_apart first second) most ≡ worst_gap g (has slots) most i j
+  pub worst_gap_of_rows : over (worst_apart mask first second) most ≡ worst_gap g (has slots) most i j
   unfolding worst_gap worst_apart
   worst_gap_of_rows =
       ap (λ n. over n most)
-      (largest_below_past (round_count g.teams) row_length (apart_in first second) (omega (arith, season)) (λ r past below. past_season r past)) ∙
-      over_largest (round_count g.teams) most (apart_in first second) ∙
+      (largest_below_past (round_count g.teams) row_length (apart_in mask first second) (omega (arith, season)) (λ r past below. past_season r past)) ∙
+      over_largest (round_count g.teams) most (apart_in mask first second) ∙
       sym (largest_below_same (round_count g.teams) (λ r. if has slots r then gap g most i j r else 0)
-      (λ r. over (apart_in first second r) most) (λ r below. in_season r))
+      (λ r. over (apart_in mask first second r) most) (λ r below. in_season r below))

@@ -1,6 +1,6 @@
 -- What private functions count on the way: words of theirs alone.
 use Rattle.std.specs.Prelude.{◌≡◌, ℕ, ◌+◌, ◌-◌, ◌*◌, Bool, true, if◌then◌else◌, ◌<◌, ◌&&◌, ◌||◌, not, nat_lt, List, []}
-use Rattle.std.specs.Prelude.{slice_index, slice_index_or}
+use Rattle.std.specs.Prelude.{slice_index, slice_index_or, min}
 use Rattle.std.specs.Int.{abs_diff}
 use Rattle.league.specs.Sets.{has, all_numbers}
 use Rattle.league.specs.Sums.{sum_where, count_where}
@@ -66,25 +66,29 @@ counts_pair main team other = nat_lt other team || (nat_lt team other && not (ha
 abbrev pub row_of : List (List ℕ) → ℕ → List ℕ
 row_of rows team = slice_index_or rows team []
 
--- by how much two rows are apart in a round
-abbrev pub apart_in : List ℕ → List ℕ → ℕ → ℕ
-apart_in first second r = abs_diff (slice_index first r) (slice_index second r)
+-- by how much two rows are apart in a round, at most the mask's number there
+abbrev pub apart_in : List ℕ → List ℕ → List ℕ → ℕ → ℕ
+apart_in mask first second r = min (abs_diff (slice_index first r) (slice_index second r)) (slice_index mask r)
 
 -- the largest of these
-unfoldable pub worst_apart : List ℕ → List ℕ → ℕ
-worst_apart first second = largest_below row_length (apart_in first second)
+unfoldable pub worst_apart : List ℕ → List ℕ → List ℕ → ℕ
+worst_apart mask first second = largest_below row_length (apart_in mask first second)
 
 -- 0 as long as a row is, and then 1 as long
 abbrev pub IsStep : List ℕ → Type 0
 IsStep step = (k : ℕ) → k < 2 * row_length → slice_index step k ≡ (if nat_lt k row_length then 0 else 1)
 
--- the number of a row in a round from the first on, and 0 before it
-abbrev pub from_on : ℕ → List ℕ → ℕ → ℕ
-from_on first row r = if nat_lt r first then 0 else slice_index row r
+-- 1 in each round from the first on, and 0 before it
+abbrev pub from_on : ℕ → ℕ → ℕ
+from_on first r = if nat_lt r first then 0 else 1
 
 -- 1 in each round of a set, and 0 in the others
 abbrev pub one_in : ℕ → ℕ → ℕ
 one_in set r = if has set r then 1 else 0
+
+-- the greatest number of eight bits in each round of a set, and 0 in the others
+abbrev pub mask_in : ℕ → ℕ → ℕ
+mask_in set r = if has set r then 255 else 0
 
 -- the number of a round, by its bits
 unfoldable pub number_at : RoundNumbers → ℕ → ℕ

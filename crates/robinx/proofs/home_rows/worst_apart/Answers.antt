@@ -15,7 +15,7 @@ loop-lane-preserved c =
       c.worst_in_lane.ensures,
       c.max-largest.ensures ∙ ord_max_is c.loop-lane.largest c.worst_in_lane.result,
       largest_below_more c.loop-lane.lane
-          (λ lane. largest_below 5 (λ chunk. apart_in c.args.first.now c.args.second.now (chunk * 16 + lane))),
+          (λ lane. largest_below 5 (λ chunk. apart_in c.args.mask.now c.args.first.now c.args.second.now (chunk * 16 + lane))),
     )
 
 pub returns : goal.returns
@@ -23,5 +23,5 @@ unfolding worst_apart
 returns c =
     let whole : c.loop-lane.lane ≡ 16 = omega arith in
     c.loop-lane.invariant ∙
-    ap (λ n. largest_below n (λ lane. largest_below 5 (λ chunk. apart_in c.args.first.now c.args.second.now (chunk * 16 + lane)))) whole ∙
-    sym (largest_by_lanes 5 16 (apart_in c.args.first.now c.args.second.now))
+    ap (λ n. largest_below n (λ lane. largest_below 5 (λ chunk. apart_in c.args.mask.now c.args.first.now c.args.second.now (chunk * 16 + lane)))) whole ∙
+    sym (largest_by_lanes 5 16 (apart_in c.args.mask.now c.args.first.now c.args.second.now))

@@ -5,4 +5,4 @@ use Rattle.robinx.proofs.home_rows.worst_apart.Given as goal
 
 abbrev pub invariant-loop-lane : goal.invariant-loop-lane
 invariant-loop-lane l =
-    l.largest ≡ largest_below l.lane (λ lane. largest_below 5 (λ chunk. apart_in l.first l.second (chunk * 16 + lane)))
+    l.largest ≡ largest_below l.lane (λ lane. largest_below 5 (λ chunk. apart_in l.mask l.first l.second (chunk * 16 + lane)))

@@ -1,4 +1,4 @@
-use Rattle.std.proofs.Common.{◌≡◌, ◌+◌, ◌-◌, ◌*◌, rules, sym, ◌∙◌, ap, arith}
+use Rattle.std.proofs.Common.{◌≡◌, ◌+◌, ◌*◌, sym, ◌∙◌, ap, arith}
 use Rattle.robinx.specs.Deviations.{largest_below}
 use Rattle.robinx.specs.within.Walked.{apart_in}
 use Rattle.robinx.proofs.limits.Largest.{largest_below_none, largest_below_more, ord_max_is}
@@ -9,18 +9,18 @@ loop-chunk-init c = sym (largest_below_none _)
 
 pub loop-chunk-preserved : goal.loop-chunk-preserved
 loop-chunk-preserved c =
-    let round = c.loop-chunk.chunk * 16 + c.args.lane in
-    let apart : c.max.result - c.min.result ≡ apart_in c.args.first.now c.args.second.now round = search rules in
     omega (
       arith,
       c.loop-chunk.invariant,
-      apart,
-      c.max-largest.ensures ∙ ord_max_is c.loop-chunk.largest (c.max.result - c.min.result),
-      largest_below_more c.loop-chunk.chunk (λ chunk. apart_in c.args.first.now c.args.second.now (chunk * 16 + c.args.lane)),
+      c.max.ensures,
+      c.min.ensures,
+      c.min-in-loop-chunk.ensures,
+      c.max-largest.ensures ∙ ord_max_is c.loop-chunk.largest c.min-in-loop-chunk.result,
+      largest_below_more c.loop-chunk.chunk (λ chunk. apart_in c.args.mask.now c.args.first.now c.args.second.now (chunk * 16 + c.args.lane)),
     )
 
 pub returns : goal.returns
 returns c =
     let whole : c.loop-chunk.chunk ≡ 5 = omega arith in
     c.loop-chunk.invariant ∙
-    ap (λ n. largest_below n (λ chunk. apart_in c.args.first.now c.args.second.now (chunk * 16 + c.args.lane))) whole
+    ap (λ n. largest_below n (λ chunk. apart_in c.args.mask.now c.args.first.now c.args.second.now (chunk * 16 + c.args.lane))) whole

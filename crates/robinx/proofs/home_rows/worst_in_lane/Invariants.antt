@@ -4,4 +4,4 @@ use Rattle.robinx.specs.within.Walked.{apart_in}
 use Rattle.robinx.proofs.home_rows.worst_in_lane.Given as goal
 
 abbrev pub invariant-loop-chunk : goal.invariant-loop-chunk
-invariant-loop-chunk l = l.largest ≡ largest_below l.chunk (λ chunk. apart_in l.first l.second (chunk * 16 + l.lane))
+invariant-loop-chunk l = l.largest ≡ largest_below l.chunk (λ chunk. apart_in l.mask l.first l.second (chunk * 16 + l.lane))
