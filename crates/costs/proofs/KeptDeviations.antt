@@ -1,5 +1,5 @@
 -- What is kept of the rules' deviations, from one schedule to the next.
-use Rattle.std.proofs.Common.{◌≡◌, ℕ, ◌+◌, ◌<◌, ◌&&◌, not, Bool, true, false, if◌then◌else◌, List, length, get_or, Option, Some, None, slice_get, slice_set}
+use Rattle.std.proofs.Common.{◌≡◌, ◌≢◌, ℕ, ◌+◌, ◌<◌, ◌&&◌, not, Bool, true, false, if◌then◌else◌, List, length, get_or, Option, Some, None, slice_get, slice_set}
 use Rattle.std.proofs.Common.{IfSome, true≢false, refl, sym, ◌∙◌, ap, subst, inl, inr, arith}
 use Rattle.std.specs.Option.{is_some}
 use Rattle.std.specs.Prelude.{slice_index}
@@ -13,7 +13,7 @@ use Rattle.league.specs.RuleLimits.{IsBodyFor}
 use Rattle.league.specs.Sets.{has}
 use Rattle.league.specs.within.Sets.{IsWithoutLowest}
 use Rattle.league.specs.declared.rule.Rule.{Rule}
-use Rattle.league.proofs.ForCallers.{has_empty, lowest_gone, others_kept}
+use Rattle.league.proofs.ForCallers.{lowest_gone, others_kept}
 use Rattle.fixtures.specs.Exchanges.{exchanged_by}
 use Rattle.fixtures.specs.Games.{Games}
 use Rattle.robinx.specs.Deviations.{deviation}
@@ -91,29 +91,37 @@ rest_more rules scope left lowest rest g next rule d within taken at one so_far 
 ]
 
 -- a loop after the exchange adds the part of each rule to what is put down of it
-pub rest_taken : (rules : List Rule) (scope : Scope) (left lowest rest : ℕ) (g : Games) (next : List ℕ) (rule : Rule) (d : ℕ) →
-    lowest < length next → IsWithoutLowest left lowest rest → slice_get rules lowest ≡ Some rule →
-    d ≡ get_or next lowest 0 + deviation_part g scope.main.teams scope.main.rounds scope.turning rule.body →
-    AreRests rules scope left g next → AreRests rules scope rest g (slice_set next lowest d)
-rest_taken rules scope left lowest rest g next rule d within taken at one so_far k other there in_scope = elim (cases_eq k lowest) [
-  | inl here ↦
-      let part = deviation_part g scope.main.teams scope.main.rounds scope.turning other.body in
-      let before : get_or next k 0 + part ≡ deviation g other.body =
-      ap (λ b. get_or next k 0 + (if b then part else 0)) (sym (ap (λ j. has left j) here ∙ taken.in_set)) ∙ so_far k other there in_scope in
-      let same : deviation_part g scope.main.teams scope.main.rounds scope.turning rule.body ≡ part =
-      ap (λ (r : Rule). deviation_part g scope.main.teams scope.main.rounds scope.turning r.body)
-      (one_rule rules k lowest rule other at there here) in
-      let gone : has rest k ≡ false = ap (λ j. has rest j) here ∙ lowest_gone left lowest rest taken in
-      let written : get_or (slice_set next lowest d) k 0 ≡ d = get_or-set_at next lowest k d 0 here within in
-      ap (λ b. get_or (slice_set next lowest d) k 0 + (if b then part else 0)) gone ∙
-      omega (arith, written, one, same, before, ap (λ j. get_or next j 0) here)
-  | inr elsewhere ↦
-      ap (λ n. n + (if has rest k then deviation_part g scope.main.teams scope.main.rounds scope.turning other.body else 0))
-      (get_or-set_other next lowest k d 0 elsewhere) ∙
-      ap (λ b. get_or next k 0 + (if b then deviation_part g scope.main.teams scope.main.rounds scope.turning other.body else 0))
-      (others_kept left lowest rest k taken elsewhere) ∙
-      so_far k other there in_scope
-]
+pub rest_taken : (rules : List Rule) (scope : Scope) (without fewer : ℕ → Bool) (index : ℕ) (g : Games) (next : List ℕ) (rule : Rule) (d : ℕ) →
+    index < length next → without index ≡ true → fewer index ≡ false → ((k : ℕ) → k ≢ index → fewer k ≡ without k) →
+    slice_get rules index ≡ Some rule →
+    d ≡ get_or next index 0 + deviation_part g scope.main.teams scope.main.rounds scope.turning rule.body →
+    AreRests rules scope without g next → AreRests rules scope fewer g (slice_set next index d)
+rest_taken rules scope without fewer index g next rule d within lacks has_it others at one so_far k other there in_scope =
+    elim (cases_eq k index) [
+      | inl here ↦
+          let part = deviation_part g scope.main.teams scope.main.rounds scope.turning other.body in
+          let before : get_or next k 0 + part ≡ deviation g other.body =
+          ap (λ b. get_or next k 0 + (if b then part else 0)) (sym (ap without here ∙ lacks)) ∙ so_far k other there in_scope in
+          let same : deviation_part g scope.main.teams scope.main.rounds scope.turning rule.body ≡ part =
+          ap (λ (r : Rule). deviation_part g scope.main.teams scope.main.rounds scope.turning r.body)
+          (one_rule rules k index rule other at there here) in
+          let gone : fewer k ≡ false = ap fewer here ∙ has_it in
+          let written : get_or (slice_set next index d) k 0 ≡ d = get_or-set_at next index k d 0 here within in
+          ap (λ b. get_or (slice_set next index d) k 0 + (if b then part else 0)) gone ∙
+          omega (arith, written, one, same, before, ap (λ j. get_or next j 0) here)
+      | inr elsewhere ↦
+          let part = deviation_part g scope.main.teams scope.main.rounds scope.turning other.body in
+          ap (λ n. n + (if fewer k then part else 0)) (get_or-set_other next index k d 0 elsewhere) ∙
+          ap (λ b. get_or next k 0 + (if b then part else 0)) (others k elsewhere) ∙
+          so_far k other there in_scope
+    ]
+
+-- the same rules lack their parts
+pub rests_same : (rules : List Rule) (scope : Scope) (without other : ℕ → Bool) (g : Games) (next : List ℕ) →
+    ((i : ℕ) → without i ≡ other i) → AreRests rules scope without g next → AreRests rules scope other g next
+rests_same rules scope without other g next same rests i rule at in_scope =
+    ap (λ b. get_or next i 0 + (if b then deviation_part g scope.main.teams scope.main.rounds scope.turning rule.body else 0)) (sym (same i)) ∙
+    rests i rule at in_scope
 
 -- what an evaluator shows of its deviations, and what they are
 
@@ -156,7 +164,7 @@ module _ (l : LeagueData) (g : Games) (scope : Scope) (is : IsLeague l) (same : 
   abbrev pub after : Games
   after = exchanged_by g scope.attempt.exchange.now
 
-  pub rests_after : (next : List ℕ) → AreRests l.rules scope scope.rules g next → AreRests l.rules scope scope.rules after next
+  pub rests_after : (next : List ℕ) → AreRests l.rules scope (has scope.rules) g next → AreRests l.rules scope (has scope.rules) after next
   rests_after next rests i rule at in_scope =
       let balance = body_balances g scope are rule.body (rule_for l g i is same rule at) in
       let before = ap (λ b. get_or next i 0 +
@@ -165,17 +173,13 @@ module _ (l : LeagueData) (g : Games) (scope : Scope) (is : IsLeague l) (same : 
       ap (λ b. get_or next i 0 + (if b then deviation_part after scope.main.teams scope.main.rounds scope.turning rule.body else 0)) in_scope ∙
       omega (arith, balance, before)
 
-  pub kept_after : KnowsRules l scope → (next kept new : List ℕ) → AreDeviations l.rules g kept → AreRests l.rules scope 0 after next →
+  pub kept_after : KnowsRules l scope → (next kept new : List ℕ) → AreDeviations l.rules g kept → AreRests l.rules scope (λ _. false) after next →
       ((i : ℕ) → slice_index new i ≡ (if has scope.rules i then slice_index next i else slice_index kept i)) →
       AreDeviations l.rules after new
   kept_after knows next kept new before rests written i rule at = written i ∙ by_test (has scope.rules i) refl
     where
       by_test : (b : Bool) → has scope.rules i ≡ b → (if b then slice_index next i else slice_index kept i) ≡ deviation after rule.body
-      by_test true e =
-          let left = if has 0 i then deviation_part after scope.main.teams scope.main.rounds scope.turning rule.body else 0 in
-          let none : left ≡ 0 =
-          ap (λ b. if b then deviation_part after scope.main.teams scope.main.rounds scope.turning rule.body else 0) (has_empty i) in
-          omega (arith, rests i rule at e, none)
+      by_test true e = omega (arith, rests i rule at e)
       by_test false e =
           let for_rule = rule_for l g i is same rule at in
           let out = sym (knows.rules i) ∙ e in

@@ -3,6 +3,6 @@ pub mod Parts
 pub mod PartLimits
 pub mod Walked
 pub mod Partial
-pub mod LastFairness
+pub mod CountingOrders
 pub mod KeptDeviations
 pub mod ForCallers

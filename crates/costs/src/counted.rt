@@ -1,7 +1,7 @@
 //! The part of a cost that has to be counted before an exchange and after it: of the rules, and in a phased league of
 //! the pairs with both games in one half.
 
-ghost use Rattle.std.specs.Prelude.{◌≡◌, ◌*◌, ◌<◌, ◌≤◌, true, length, IfSome, MatchOption};
+ghost use Rattle.std.specs.Prelude.{◌≡◌, ◌*◌, ◌<◌, ◌≤◌, true, false, length, IfSome, MatchOption};
 ghost use Rattle.league.specs.League.{teams};
 ghost use Rattle.league.specs.Limits.{max_rules, max_teams};
 ghost use Rattle.league.specs.Sets.{has};
@@ -12,14 +12,11 @@ ghost use Rattle.costs.specs.within.CostParts.{IsPredicted, IsRest, IsScope, Kno
 ghost use Rattle.costs.specs.within.KeptDeviations.{AreKeptDeviations, AreRests, IsKeptOf};
 
 use crate::cost::Cost;
-use crate::fairness::leaves_room;
 use crate::kept_deviations::KeptDeviations;
-use crate::penalties::Penalties;
-use crate::rule_costs::parts_of_rules;
+use crate::rule_costs::{parts_of_rules, with_rules};
 use crate::scope::Scope;
 use fixtures::{Schedule, Touched};
 use league::League;
-use robinx::deviation_part;
 use tours::unphased_part;
 
 /// A predicted cost without the penalties that the exchange can change.
@@ -38,7 +35,7 @@ fn rest_of(
     ensures rest { IsRest league.now scope.now (exchanged_by schedule.now scope.now.attempt.exchange.now) result }
     ensures deviations { AreKeptDeviations league.now.rules schedule.now deviations.new }
     ensures same { IsKeptOf deviations.new deviations.old }
-    ensures rests { deviations.new.is_known ≡ true → AreRests league.now.rules scope.now scope.now.rules schedule.now deviations.new.next }
+    ensures rests { deviations.new.is_known ≡ true → AreRests league.now.rules scope.now (has scope.now.rules) schedule.now deviations.new.next }
 {
     prove_eq!(league.teams(), schedule.teams());
     let rules = parts_of_rules(schedule, league, deviations, scope);
@@ -49,8 +46,7 @@ fn rest_of(
     }
 }
 
-/// Gives that rest, unless it or the last rule of class FA2 takes the score after the exchange over the greatest that the attempt allows. For
-/// that nothing is made.
+/// Gives that rest, unless it takes the score after the exchange over the greatest that the attempt allows. For that nothing is made.
 pub(crate) fn rest_within(
     schedule: &Schedule,
     league: &League,
@@ -61,7 +57,6 @@ pub(crate) fn rest_within(
     requires same_size { teams league.now ≡ schedule.now.teams }
     requires scope { IsScope schedule.now scope.now }
     requires rules { KnowsRules league.now scope.now }
-    requires weight { 1 ≤ scope.now.attempt.weight }
     requires deviations { AreKeptDeviations league.now.rules schedule.now deviations.old }
     requires predicted { IsPredicted league.now schedule.now scope.now.attempt.exchange.now predicted }
     ensures rest { MatchOption result
@@ -69,13 +64,12 @@ pub(crate) fn rest_within(
         (λ rest. IsRest league.now scope.now (exchanged_by schedule.now scope.now.attempt.exchange.now) rest) }
     ensures deviations { AreKeptDeviations league.now.rules schedule.now deviations.new }
     ensures same { IsKeptOf deviations.new deviations.old }
-    ensures rests { deviations.new.is_known ≡ true → AreRests league.now.rules scope.now scope.now.rules schedule.now deviations.new.next }
+    ensures rests { deviations.new.is_known ≡ true →
+        AreRests league.now.rules scope.now (has scope.now.rules) schedule.now deviations.new.next }
 {
     prove_eq!(league.teams(), schedule.teams());
     let rest = rest_of(schedule, league, deviations, scope, predicted);
-    let score = rest.score_by(scope.attempt.weight);
-    let limit = scope.attempt.limit;
-    if score > limit || !leaves_room(schedule, league, &mut deviations.gaps, scope, limit - score) {
+    if rest.score_by(scope.attempt.weight) > scope.attempt.limit {
         return None;
     }
     Some(rest)
@@ -94,36 +88,22 @@ pub(crate) fn whole_within(
     requires rules { KnowsRules league.now scope.now }
     requires rest { IsRest league.now scope.now schedule.now rest }
     requires next_length { length deviations.old.next ≡ max_rules }
-    requires rests { deviations.old.is_known ≡ true → AreRests league.now.rules scope.now scope.now.rules schedule.now deviations.old.next }
+    requires rests { deviations.old.is_known ≡ true →
+        AreRests league.now.rules scope.now (has scope.now.rules) schedule.now deviations.old.next }
     ensures cost { IsCostWithin league.now scope.now.attempt.weight scope.now.attempt.limit schedule.now result }
     ensures same { IsKeptOf deviations.new deviations.old }
     ensures next_length { length deviations.new.next ≡ max_rules }
-    ensures all { IfSome result (λ _. deviations.new.is_known ≡ true → AreRests league.now.rules scope.now 0 schedule.now deviations.new.next) }
+    ensures all { IfSome result (λ _. deviations.new.is_known ≡ true →
+        AreRests league.now.rules scope.now (λ _. false) schedule.now deviations.new.next) }
 {
     prove_eq!(league.teams(), schedule.teams());
-    let (weight, limit) = (scope.attempt.weight, scope.attempt.limit);
-    let mut cost = Cost {
+    let begun = Cost {
         hard: rest.hard + phases_part(schedule, league, scope.main),
         ..rest
     };
-    for i in scope.rules {
-        if cost.score_by(weight) > limit {
-            return None;
-        }
-        let rule = league.rule(i);
-        let part = deviation_part(
-            schedule,
-            rule,
-            scope.main,
-            scope.turning,
-            &mut deviations.gaps,
-        );
-        deviations.next[i] = deviations.next[i].saturating_add(part as u32);
-        let added = Penalties::of_rule(rule.weight, part);
-        cost.hard += added.hard;
-        cost.soft += added.soft;
-    }
-    if cost.score_by(weight) > limit {
+    let first = with_rules(schedule, league, deviations, scope, scope.first, begun)?;
+    let cost = with_rules(schedule, league, deviations, scope, scope.last, first)?;
+    if cost.score_by(scope.attempt.weight) > scope.attempt.limit {
         return None;
     }
     Some(cost)

@@ -1,10 +1,11 @@
 //! The evaluator, by which exchanges are judged on the schedules of one league.
 
-ghost use Rattle.std.specs.Prelude.{◌≡◌, length, Some, None};
-ghost use Rattle.costs.specs.Evaluators.{is_fairness, last_fairness, IsEvaluatorOf};
+ghost use Rattle.std.specs.Prelude.{◌≡◌, None};
+ghost use Rattle.costs.specs.Evaluators.{IsEvaluatorOf};
 
+use crate::counting_order::CountingOrder;
 use crate::kept_deviations::KeptDeviations;
-use league::{League, Rule, RuleBody};
+use league::League;
 use rule_index::RuleIndex;
 use std::marker::Model;
 
@@ -14,8 +15,7 @@ use std::marker::Model;
 #[derive(Drop)]
 pub struct Evaluator {
     pub(crate) index: RuleIndex,
-    /// The last rule of class FA2.
-    pub(crate) fairness: Option<usize>,
+    pub(crate) order: CountingOrder,
     pub(crate) deviations: KeptDeviations,
 }
 
@@ -28,7 +28,8 @@ impl Model for Evaluator {
 
     ghost view = { λ e. record {
       index = e.index;
-      fairness = e.fairness;
+      first = e.order.first;
+      last = e.order.last;
       deviations = if_known e.deviations.is_known e.deviations.kept;
     } };
 
@@ -43,7 +44,7 @@ impl Evaluator {
     {
         Evaluator {
             index: RuleIndex::new(league),
-            fairness: last_fairness(league),
+            order: CountingOrder::new(league),
             deviations: KeptDeviations::new(),
         }
     }
@@ -54,7 +55,7 @@ impl Evaluator {
     {
         Evaluator {
             index: self.index,
-            fairness: self.fairness,
+            order: self.order,
             deviations: KeptDeviations::new(),
         }
     }
@@ -65,26 +66,4 @@ impl Evaluator {
     {
         self.deviations.forget();
     }
-}
-
-/// The last rule of class FA2, if there is one.
-#[tactic(auto, unfolding(crate::specs::Evaluators::last_fairness))]
-fn last_fairness(league: &League) -> Option<usize>
-    ensures { result ≡ last_fairness league.now.rules (length league.now.rules) }
-{
-    let mut last = None;
-    for i in 0..league.rule_count() {
-        if is_fairness(league.rule(i)) {
-            last = Some(i);
-        }
-    }
-    last
-}
-
-/// Whether the rule is of class FA2.
-#[tactic(auto, unfolding(crate::specs::Evaluators::is_fairness))]
-fn is_fairness(rule: &Rule) -> bool
-    ensures { result ≡ is_fairness rule.now.body }
-{
-    matches!(&rule.body, RuleBody::Fa2 { .. })
 }

@@ -4,7 +4,7 @@ use crate::scope::Scope;
 use fixtures::Schedule;
 use league::limits::MAX_RULES;
 use league::{League, Rule, RuleSet};
-use robinx::{KeptGaps, deviation, deviation_part};
+use robinx::{HomeCounts, deviation, deviation_part};
 
 /// How many exchanges are judged while no deviation is known, before all are counted: about as many as cost the same.
 const TRIES: u8 = 16;
@@ -12,7 +12,7 @@ const TRIES: u8 = 16;
 /// How far a schedule is from each rule of a league, if that is known, and what FA2 counts.
 #[derive(Drop)]
 pub(crate) struct KeptDeviations {
-    pub(crate) gaps: KeptGaps,
+    pub(crate) counts: HomeCounts,
     pub(crate) is_known: bool,
     /// The deviation from each rule, if they are known.
     pub(crate) kept: [u32; MAX_RULES],
@@ -39,7 +39,7 @@ impl KeptDeviations {
         ensures next_length { length result.next ≡ max_rules }
     {
         KeptDeviations {
-            gaps: KeptGaps::new(),
+            counts: HomeCounts::new(),
             is_known: false,
             kept: [0; MAX_RULES],
             next: [0; MAX_RULES],
@@ -96,7 +96,7 @@ impl KeptDeviations {
         if self.is_known && self.kept[i] == 0 {
             return 0;
         }
-        deviation_part(schedule, rule, scope.main, scope.turning, &mut self.gaps)
+        deviation_part(schedule, rule, scope.main, scope.turning, &mut self.counts)
     }
 
     /// Keeps the deviations after the exchange of the rules that it can alter.

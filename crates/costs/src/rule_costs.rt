@@ -1,18 +1,20 @@
 //! The penalties of a league's rules in a schedule's cost.
 
-ghost use Rattle.std.specs.Prelude.{◌≡◌, ◌*◌, ◌≤◌, true};
+ghost use Rattle.std.specs.Prelude.{◌≡◌, ℕ, ◌*◌, ◌<◌, ◌≤◌, true, length, IfSome, MatchOption};
 ghost use Rattle.league.specs.League.{teams};
 ghost use Rattle.league.specs.Limits.{deviation_limit, max_rules, max_weight};
-ghost use Rattle.costs.specs.Costs.{hard_penalty, soft_penalty, sum_over_rules};
-ghost use Rattle.costs.specs.within.CostParts.{rules_part, KnowsRules};
-ghost use Rattle.costs.specs.within.KeptDeviations.{AreKeptDeviations, AreRests, IsKeptOf};
+ghost use Rattle.league.specs.Sets.{has, IsBelow};
+ghost use Rattle.costs.specs.Costs.{cost_of, hard_penalty, score_by, soft_penalty, sum_over_rules};
+ghost use Rattle.costs.specs.within.CostParts.{parts_of, rules_part, with_penalties, IsWithin, KnowsRules};
+ghost use Rattle.costs.specs.within.KeptDeviations.{AreKeptDeviations, AreMadeWhole, AreRests, IsKeptOf};
 
+use crate::cost::Cost;
 use crate::kept_deviations::KeptDeviations;
 use crate::penalties::Penalties;
 use crate::scope::Scope;
 use fixtures::Schedule;
-use league::League;
-use robinx::deviation;
+use league::{League, RuleSet};
+use robinx::{deviation, deviation_part};
 
 /// Adds up the penalties of the rules in a schedule.
 #[tactic(auto, using(league::proofs::ForCallers::sums), unfolding(crate::specs::Costs::sum_over_rules))]
@@ -50,7 +52,7 @@ pub(crate) fn parts_of_rules(
     ensures soft_most { result.soft ≤ max_rules * (max_weight * deviation_limit) }
     ensures deviations { AreKeptDeviations league.now.rules schedule.now deviations.new }
     ensures same { IsKeptOf deviations.new deviations.old }
-    ensures rests { deviations.new.is_known ≡ true → AreRests league.now.rules scope.now scope.now.rules schedule.now deviations.new.next }
+    ensures rests { deviations.new.is_known ≡ true → AreRests league.now.rules scope.now (has scope.now.rules) schedule.now deviations.new.next }
 {
     prove_eq!(league.teams(), schedule.teams());
     let mut costs = Penalties { hard: 0, soft: 0 };
@@ -63,4 +65,43 @@ pub(crate) fn parts_of_rules(
         costs.soft += added.soft;
     }
     costs
+}
+
+/// The cost before with what the exchange of the scope can alter of some rules, which are counted one after another, until the score is above the
+/// greatest that the attempt allows. The deviations from these rules, of which the rest is known, are made whole.
+pub(crate) fn with_rules(
+    schedule: &Schedule,
+    league: &League,
+    deviations: &mut KeptDeviations,
+    scope: &Scope<'_>,
+    rules: RuleSet,
+    before: Cost,
+) -> Option<Cost>
+    requires same_size { teams league.now ≡ schedule.now.teams }
+    requires below { IsBelow (length league.now.rules) rules }
+    requires alterable { (i : ℕ) → has rules i ≡ true → has scope.now.rules i ≡ true }
+    requires before { IsWithin league.now scope.now rules schedule.now before }
+    requires next_length { length deviations.old.next ≡ max_rules }
+    ensures cost { MatchOption result (scope.now.attempt.limit < score_by scope.now.attempt.weight (cost_of league.now schedule.now))
+        (λ counted. counted ≡ with_penalties before (parts_of league.now scope.now rules schedule.now)) }
+    ensures same { IsKeptOf deviations.new deviations.old }
+    ensures next_length { length deviations.new.next ≡ max_rules }
+    ensures whole { IfSome result (λ _. AreMadeWhole league.now.rules scope.now rules schedule.now deviations.old deviations.new) }
+{
+    prove_eq!(league.teams(), schedule.teams());
+    let (weight, limit) = (scope.attempt.weight, scope.attempt.limit);
+    let mut cost = before;
+    for i in rules {
+        if cost.score_by(weight) > limit {
+            return None;
+        }
+        let rule = league.rule(i);
+        let counts = &mut deviations.counts;
+        let part = deviation_part(schedule, rule, scope.main, scope.turning, counts);
+        deviations.next[i] = deviations.next[i].saturating_add(part as u32);
+        let added = Penalties::of_rule(rule.weight, part);
+        cost.hard += added.hard;
+        cost.soft += added.soft;
+    }
+    Some(cost)
 }

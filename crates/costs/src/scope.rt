@@ -21,8 +21,9 @@ pub(crate) struct Scope<'a> {
     pub(crate) turning: TeamSet,
     /// The rules whose deviation can change.
     pub(crate) rules: RuleSet,
-    /// The last rule of class FA2.
-    pub(crate) fairness: Option<usize>,
+    /// Those of them that are counted first, and those that are counted last.
+    pub(crate) first: RuleSet,
+    pub(crate) last: RuleSet,
 }
 
 impl<'a> Scope<'a> {
@@ -34,12 +35,14 @@ impl<'a> Scope<'a> {
         ensures rules { (l : LeagueData) → IsEvaluatorOf l.rules evaluator.now → KnowsRules l result }
     {
         let main = attempt.exchange.main();
+        let rules = evaluator.index.alterable(main);
         Scope {
             attempt: *attempt,
             main,
             turning: attempt.exchange.turning(schedule),
-            rules: evaluator.index.alterable(main),
-            fairness: evaluator.fairness,
+            rules,
+            first: rules.intersection(evaluator.order.first),
+            last: rules.intersection(evaluator.order.last),
         }
     }
 }

@@ -1,5 +1,5 @@
 -- What is kept of the rules' deviations while an exchange is judged.
-use Rattle.std.specs.Prelude.{◌≡◌, ℕ, ◌+◌, true, if◌then◌else◌, List, length, Some, slice_get, slice_index}
+use Rattle.std.specs.Prelude.{◌≡◌, ℕ, ◌+◌, ◌||◌, Bool, true, false, if◌then◌else◌, List, length, Some, slice_get, slice_index}
 use Rattle.league.specs.Limits.{max_rules}
 use Rattle.league.specs.Sets.{has}
 use Rattle.league.specs.declared.rule.Rule.{Rule}
@@ -21,9 +21,15 @@ pub record IsKeptOf (new old : KeptDeviations) : Type 0 where
   pub known : new.is_known ≡ old.is_known
   pub kept : new.kept ≡ old.kept
 
--- For each rule that the exchange can alter: what of its deviation on a schedule isn't the part that the exchange can alter if the rule is in
--- a set, otherwise all of it.
-abbrev pub AreRests : List Rule → Scope → ℕ → Games → List ℕ → Type 0
+-- For each rule that the exchange can alter: what of its deviation on a schedule isn't the part that the exchange can alter if the rule passes
+-- a test, otherwise all of it.
+abbrev pub AreRests : List Rule → Scope → (ℕ → Bool) → Games → List ℕ → Type 0
 AreRests rules scope without g next = (i : ℕ) (rule : Rule) → slice_get rules i ≡ Some rule → has scope.rules i ≡ true →
-    slice_index next i + (if has without i then deviation_part g scope.main.teams scope.main.rounds scope.turning rule.body else 0) ≡
+    slice_index next i + (if without i then deviation_part g scope.main.teams scope.main.rounds scope.turning rule.body else 0) ≡
     deviation g rule.body
+
+-- the deviations of a set of rules are made whole, whichever others are not
+abbrev pub AreMadeWhole : List Rule → Scope → ℕ → Games → KeptDeviations → KeptDeviations → Type 0
+AreMadeWhole rules scope set g old new = (others : ℕ → Bool) → ((i : ℕ) → has set i ≡ true → others i ≡ false) →
+    (old.is_known ≡ true → AreRests rules scope (λ i. has set i || others i) g old.next) →
+    new.is_known ≡ true → AreRests rules scope others g new.next

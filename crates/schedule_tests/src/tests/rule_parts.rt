@@ -4,7 +4,7 @@ use crate::tests::checks::check_same;
 use crate::tests::rule_leagues::{check_deviation, league_with};
 use fixtures::{Schedule, Touched, berger};
 use league::{League, SlotSet, TeamSet};
-use robinx::{KeptGaps, deviation_part};
+use robinx::{HomeCounts, deviation_part};
 use std::alloc::Global;
 use std::process::Abort;
 use std::test::Fail;
@@ -125,13 +125,13 @@ fn part(
     league: &League,
     main: Touched,
     sides: TeamSet,
-    gaps: &mut KeptGaps,
+    counts: &mut HomeCounts,
 ) -> Option<u64> {
     if league.teams() != schedule.teams() || league.rule_count() != 1 {
         return None;
     }
     let rule = league.rule(0);
-    Some(deviation_part(schedule, rule, main, sides, gaps))
+    Some(deviation_part(schedule, rule, main, sides, counts))
 }
 
 /// The games of teams 1 and 2 with each other.
@@ -151,7 +151,7 @@ fn check_part(
 ) -> Result<(), Fail> {
     let league = league_with(alloc, 6, rule)?;
     let main = their_games();
-    let found = part(start, &league, main, main.teams, &mut KeptGaps::new());
+    let found = part(start, &league, main, main.teams, &mut HomeCounts::new());
     check_same(rt, &(rule, found), &(rule, Some(count)));
     Ok(())
 }
@@ -176,7 +176,7 @@ fn part_against_all_teams_is_of_sides(rt: HostRuntime) -> Result<(), Fail> {
     let start = berger(rt.alloc(), 6)?;
     let main = their_games();
     let sides = TeamSet::empty().with(0);
-    let found = part(&start, &league, main, sides, &mut KeptGaps::new());
+    let found = part(&start, &league, main, sides, &mut HomeCounts::new());
     check_same(&rt, &(rule, found), &(rule, Some(2)));
     Ok(())
 }

@@ -1,82 +1,74 @@
-use Rattle.std.proofs.Common.{◌≡◌, ◌+◌, ◌<◌, if◌then◌else◌, get_or, refl, sym, ap, ◌∙◌, arith}
-use Rattle.std.proofs.lemmas.Bool.{and_parts}
-use Rattle.league.specs.Limits.{deviation_limit}
+use Rattle.std.proofs.Common.{◌≡◌, ◌+◌, ◌||◌, Bool, true, false, refl, sym, ap, arith}
 use Rattle.league.specs.Sets.{has}
-use Rattle.robinx.specs.Deviations.{deviation}
-use Rattle.robinx.specs.Parts.{deviation_part}
-use Rattle.robinx.proofs.ForCallers.{deviation_below}
-use Rattle.costs.proofs.Parts.{rule_for}
-use Rattle.std.proofs.lemmas.List.{length-set}
-use Rattle.league.proofs.ForCallers.{lowest_below}
-use Rattle.costs.proofs.KeptDeviations.{rest_taken}
+use Rattle.costs.proofs.KeptDeviations.{rests_same}
+use Rattle.costs.proofs.Partial.{begun_is, first_within, last_within, whole_is}
+use Rattle.costs.proofs.Scores.{cost_small, score_fits}
+use Rattle.costs.specs.Costs.{score_by}
 use Rattle.costs.specs.declared.cost.Cost.{Cost}
-use Rattle.costs.proofs.Partial.{IsCountedWithout, all_counted, no_more, none_counted, one_more_counted}
-use Rattle.costs.proofs.Scores.{cost_small}
 use Rattle.costs.proofs.counted.whole_within.Goals as goal
 
-pub overflow_add-cost : goal.overflow_add-cost
-overflow_add-cost c =
+pub overflow_add-begun : goal.overflow_add-begun
+overflow_add-begun c =
     omega (
       arith,
+      c.phases_part.ensures.value,
       ap (λ (cost : Cost). cost.hard) c.requires.rest,
       (cost_small c.args.league.now c.args.schedule.now c.teams.ensures.limits c.requires.same_size).hard,
     )
 
-pub loop-i-init : goal.loop-i-init
-loop-i-init c =
-    let counted : IsCountedWithout c.args.league.now c.args.scope.now c.args.schedule.now c.args.rest c.into_iter-i-iterator.result _ =
-    none_counted _ _ _ _ _ _ c.teams.ensures.limits c.requires.same_size c.teams-2.ensures.round_robin c.requires.rules
-    c.into_iter-i-iterator.ensures.into_iter_gives refl (omega (arith, c.phases_part.ensures.value)) refl in
-    record {
-      counted = counted;
-      no_more = no_more c.args.scope.now.attempt.weight (omega arith) c.teams.ensures.limits c.requires.same_size c.requires.rest counted;
-      same = record { known = refl; kept = refl };
-      next_length = c.requires.next_length;
-      within = λ i has_it. sym (ap (λ set. has set i) c.into_iter-i-iterator.ensures.into_iter_gives) ∙ has_it;
-      rests = λ known. rw c.into_iter-i-iterator.ensures.into_iter_gives (c.requires.rests known);
-    }
+pub with_rules-requires-clause-below : goal.with_rules-requires-clause-below
+with_rules-requires-clause-below c = c.requires.rules.first_below
 
-pub rule-rule-requires : goal.rule-rule-requires
-rule-rule-requires c = lowest_below _ _ _ _ c.loop-i.invariant.counted.below c.in-Some.ensures.steps
+pub with_rules-requires-clause-before : goal.with_rules-requires-clause-before
+with_rules-requires-clause-before c =
+    let begun = begun_is c.args.league.now c.args.scope.now c.args.schedule.now c.args.rest _ c.teams.ensures.limits c.requires.same_size
+    c.teams-2.ensures.round_robin c.requires.rules c.requires.rest refl (ap (λ n. c.args.rest.hard + n) c.phases_part.ensures.value) refl in
+    first_within c.args.league.now c.args.scope.now c.args.schedule.now _ begun
 
-pub loop-i-preserved : goal.loop-i-preserved
-loop-i-preserved c =
-    let counted : IsCountedWithout c.args.league.now c.args.scope.now c.args.schedule.now c.args.rest _ _ =
-    one_more_counted _ _ _ _ c.loop-i.cost _ _ c.in-Some.i _ c.rule-rule.result.now c.loop-i.invariant.counted c.in-Some.ensures.steps
-    c.rule-rule.ensures.value refl
-    (omega (arith, rw c.deviation_part-part.ensures.value at c.of_rule-added.ensures.hard)) (omega (arith, rw c.deviation_part-part.ensures.value at c.of_rule-added.ensures.soft)) in
-    record {
-      counted = counted;
-      no_more = no_more c.args.scope.now.attempt.weight (omega arith) c.teams.ensures.limits c.requires.same_size c.requires.rest counted;
-      same = record { known = c.loop-i.invariant.same.known; kept = c.loop-i.invariant.same.kept };
-      next_length = length-set _ _ _ ∙ c.loop-i.invariant.next_length;
-      within = λ i has_it. c.loop-i.invariant.within i (and_parts _ _ (sym (c.in-Some.ensures.steps.others i) ∙ has_it)).0;
-      rests = λ known.
-          let rests = c.loop-i.invariant.rests known in
-          let part = deviation_part c.args.schedule.now c.args.scope.now.main.teams c.args.scope.now.main.rounds c.args.scope.now.turning
-          c.rule-rule.result.now.body in
-          let left : get_or c.loop-i.deviations.next c.in-Some.i 0 + part ≡ deviation c.args.schedule.now c.rule-rule.result.now.body =
-          ap (λ b. get_or c.loop-i.deviations.next c.in-Some.i 0 + (if b then part else 0)) (sym c.in-Some.ensures.steps.in_set) ∙
-          rests c.in-Some.i c.rule-rule.result.now c.rule-rule.ensures.value
-          (c.loop-i.invariant.within c.in-Some.i c.in-Some.ensures.steps.in_set) in
-          let small : deviation c.args.schedule.now c.rule-rule.result.now.body < deviation_limit =
-          deviation_below c.args.schedule.now c.rule-rule.result.now.body (omega (arith, c.teams-2.ensures.number, c.teams-2.ensures.most))
-          (rule_for c.args.league.now c.args.schedule.now c.in-Some.i c.teams.ensures.limits c.requires.same_size c.rule-rule.result.now
-          c.rule-rule.ensures.value) in
-          rest_taken c.args.league.now.rules c.args.scope.now _ _ _ c.args.schedule.now _ c.rule-rule.result.now _
-          (omega (
-            arith,
-            lowest_below _ _ _ _ c.loop-i.invariant.counted.below c.in-Some.ensures.steps,
-            c.teams.ensures.limits.rule_count,
-            c.loop-i.invariant.next_length,
-          ))
-          c.in-Some.ensures.steps c.rule-rule.ensures.value
-          (omega (arith, c.saturating_add.ensures, c.deviation_part-part.ensures.value, left, small)) rests;
-    }
+pub with_rules-requires-2-clause-below : goal.with_rules-requires-2-clause-below
+with_rules-requires-2-clause-below c = c.requires.rules.last_below
+
+pub with_rules-requires-2-clause-before : goal.with_rules-requires-2-clause-before
+with_rules-requires-2-clause-before c =
+    let begun = begun_is c.args.league.now c.args.scope.now c.args.schedule.now c.args.rest _ c.teams.ensures.limits c.requires.same_size
+    c.teams-2.ensures.round_robin c.requires.rules c.requires.rest refl (ap (λ n. c.args.rest.hard + n) c.phases_part.ensures.value) refl in
+    last_within c.args.league.now c.args.scope.now c.args.schedule.now _ begun _ c.in_ok-first.ensures.cost
+
+pub score_by-requires : goal.score_by-requires
+score_by-requires c =
+    let begun = begun_is c.args.league.now c.args.scope.now c.args.schedule.now c.args.rest _ c.teams.ensures.limits c.requires.same_size
+    c.teams-2.ensures.round_robin c.requires.rules c.requires.rest refl (ap (λ n. c.args.rest.hard + n) c.phases_part.ensures.value) refl in
+    let whole = whole_is c.args.league.now c.args.scope.now c.args.schedule.now _ begun _ c.in_ok-first.ensures.cost _ c.in_ok-cost.ensures.cost in
+    rw whole
+    (score_fits c.args.league.now c.args.schedule.now c.args.scope.now.attempt.weight c.teams.ensures.limits (sym c.requires.same_size) (omega arith))
+
+pub returns-then-score_by-scope-clause-cost : goal.returns-then-score_by-scope-clause-cost
+returns-then-score_by-scope-clause-cost c =
+    let begun = begun_is c.args.league.now c.args.scope.now c.args.schedule.now c.args.rest _ c.teams.ensures.limits c.requires.same_size
+    c.teams-2.ensures.round_robin c.requires.rules c.requires.rest refl (ap (λ n. c.args.rest.hard + n) c.phases_part.ensures.value) refl in
+    let whole = whole_is c.args.league.now c.args.scope.now c.args.schedule.now _ begun _ c.in_ok-first.ensures.cost _ c.in_ok-cost.ensures.cost in
+    omega (arith, ap (score_by c.args.scope.now.attempt.weight) whole, c.score_by.ensures, c.if-score_by-scope.true)
 
 pub returns-clause-cost : goal.returns-clause-cost
-returns-clause-cost c = (
-  all_counted c.args.league.now c.args.scope.now c.args.schedule.now c.args.rest c.loop-i.cost _ c.requires.rest
-      c.in-None.ensures.steps.0 c.loop-i.invariant.counted,
-  omega (arith, c.score_by-2.ensures, c.if-score_by-limit-2.false),
-)
+returns-clause-cost c =
+    let begun = begun_is c.args.league.now c.args.scope.now c.args.schedule.now c.args.rest _ c.teams.ensures.limits c.requires.same_size
+    c.teams-2.ensures.round_robin c.requires.rules c.requires.rest refl (ap (λ n. c.args.rest.hard + n) c.phases_part.ensures.value) refl in (
+      whole_is c.args.league.now c.args.scope.now c.args.schedule.now _ begun _ c.in_ok-first.ensures.cost _ c.in_ok-cost.ensures.cost,
+      omega (arith, c.score_by.ensures, c.if-score_by-scope.false),
+    )
+
+pub returns-clause-all : goal.returns-clause-all
+returns-clause-all c =
+    c.in_ok-cost.ensures.whole (λ _. false) (λ i in_last. refl)
+    (λ known.
+    rests_same c.args.league.now.rules c.args.scope.now (has c.args.scope.now.last) _ c.args.schedule.now _
+    (λ i. or_false (has c.args.scope.now.last i))
+    (c.in_ok-first.ensures.whole (has c.args.scope.now.last) c.requires.rules.apart
+    (λ was_known.
+    rests_same c.args.league.now.rules c.args.scope.now (has c.args.scope.now.rules) _ c.args.schedule.now _ c.requires.rules.both
+    (c.requires.rests was_known))
+    known))
+  where
+    or_false : (b : Bool) → b ≡ (b || false)
+    or_false true = refl
+    or_false false = refl

@@ -1,6 +1,7 @@
-use Rattle.std.proofs.Common.{◌≡◌, not, length, sym, ◌∙◌, ap, subst, arith}
+use Rattle.std.proofs.Common.{◌≡◌, not, false, length, sym, ◌∙◌, ap, subst, arith}
 use Rattle.costs.specs.declared.attempt.Attempt.{Attempt}
 use Rattle.costs.specs.within.CostParts.{IsPredicted}
+use Rattle.league.specs.Sets.{has}
 use Rattle.fixtures.specs.Exchanges.{exchanged_by}
 use Rattle.fixtures.specs.Games.{Games}
 use Rattle.costs.specs.within.KeptDeviations.{AreRests}
@@ -52,7 +53,7 @@ schedule_is c =
 
 pub whole_within-cost-requires-clause-rests : goal.whole_within-cost-requires-clause-rests
 whole_within-cost-requires-clause-rests c = λ known.
-    subst (λ (g : Games). AreRests c.args.league.now.rules c.of-scope.result c.of-scope.result.rules g c.rest_within.new.deviations.next)
+    subst (λ (g : Games). AreRests c.args.league.now.rules c.of-scope.result (has c.of-scope.result.rules) g c.rest_within.new.deviations.next)
     (schedule_is c)
     (rests_after c.args.league.now c.args.schedule.now c.of-scope.result c.teams.ensures.limits c.requires.same_size c.of-scope.ensures.scope
     _ (c.rest_within.ensures.rests known))
@@ -67,13 +68,13 @@ returns-clause-evaluator c =
     elim c.if-is_none.branch [
       | then-is_none w ↦ rw (w.schedule-is, w.evaluator-inside-is)
           (record {
-            league = record { index = league.index; fairness = league.fairness };
+            league = record { index = league.index; order = league.order };
             schedule = rw (w.make-then-is_none.ensures.made ∙ c.make-2.ensures.back)
                 (known_at c.args.league.now.rules c.args.schedule.now c.whole_within-cost.new.deviations kept);
           })
       | else-is_none w ↦ rw (w.schedule-is, w.evaluator-inside-is)
           (record {
-            league = record { index = league.index; fairness = league.fairness };
+            league = record { index = league.index; order = league.order };
             schedule = known_at c.args.league.now.rules c.make-2.new.schedule w.keep.new.self
                 (record {
                   kept_length = w.keep.ensures.kept_length;
@@ -84,7 +85,7 @@ returns-clause-evaluator c =
                       (kept_after c.args.league.now c.args.schedule.now c.of-scope.result c.teams.ensures.limits c.requires.same_size
                       c.of-scope.ensures.scope (c.of-scope.ensures.rules c.args.league.now c.requires.evaluator.league) c.whole_within-cost.new.deviations.next
                       c.whole_within-cost.new.deviations.kept w.keep.new.self.kept (kept.deviations was_known)
-                      (subst (λ (g : Games). AreRests c.args.league.now.rules c.of-scope.result 0 g c.whole_within-cost.new.deviations.next)
+                      (subst (λ (g : Games). AreRests c.args.league.now.rules c.of-scope.result (λ _. false) g c.whole_within-cost.new.deviations.next)
                       (sym moved)
                       (from_some c.whole_within-cost.result _ (c.is_none.ensures ∙ ap not w.if-is_none.false) c.whole_within-cost.ensures.all
                       was_known))
