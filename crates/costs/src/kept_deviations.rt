@@ -4,7 +4,7 @@ use crate::scope::Scope;
 use fixtures::Schedule;
 use league::limits::MAX_RULES;
 use league::{League, Rule, RuleSet};
-use robinx::{HomeCounts, deviation, deviation_part};
+use robinx::{HomeCounts, deviation, deviation_part, part_of_known};
 
 /// How many exchanges are judged while no deviation is known, before all are counted: about as many as cost the same.
 const TRIES: u8 = 16;
@@ -23,11 +23,12 @@ pub(crate) struct KeptDeviations {
 }
 
 impl KeptDeviations {
-    ghost use Rattle.std.specs.Prelude.{◌≡◌, ℕ, ◌<◌, if◌then◌else◌, length, slice_index, true, false};
+    ghost use Rattle.std.specs.Prelude.{◌≡◌, ℕ, ◌<◌, if◌then◌else◌, length, slice_index, true, false, IfSome};
     ghost use Rattle.league.specs.League.{teams};
     ghost use Rattle.league.specs.Limits.{deviation_limit, max_rules};
     ghost use Rattle.league.specs.RuleLimits.{IsBodyFor};
     ghost use Rattle.league.specs.Sets.{has, IsBelow};
+    ghost use Rattle.fixtures.specs.Games.{Games};
     ghost use Rattle.robinx.specs.Deviations.{deviation};
     ghost use Rattle.robinx.specs.Parts.{deviation_part};
     ghost use Rattle.costs.specs.within.KeptDeviations.{AreKeptDeviations, IsKeptOf};
@@ -77,7 +78,7 @@ impl KeptDeviations {
         self.is_known = true;
     }
 
-    /// The part of a rule's deviation that the exchange can alter, before it. None is counted of a rule that is known not to be broken.
+    /// The part of a rule's deviation that the exchange can alter, before it. Nothing is counted where the deviation that is known tells it.
     pub(crate) fn part_before(
         &mut self,
         schedule: &Schedule,
@@ -93,10 +94,27 @@ impl KeptDeviations {
         ensures same { IsKeptOf self.new self.old }
         ensures next { self.new.next ≡ self.old.next }
     {
-        if self.is_known && self.kept[i] == 0 {
-            return 0;
+        prove!(schedule.teams() > 0);
+        if let Some(part) = self.known_part(rule, i, scope) {
+            return part;
         }
         deviation_part(schedule, rule, scope.main, scope.turning, &mut self.counts)
+    }
+
+    /// That part, if the deviations are known and the rule isn't broken, or the exchange can alter all of its deviation or nothing.
+    fn known_part(&self, rule: &Rule, i: usize, scope: &Scope<'_>) -> Option<u64>
+        requires index { i < length self.now.kept }
+        ensures { (g : Games) → (self.now.is_known ≡ true → slice_index self.now.kept i ≡ deviation g rule.now.body) →
+            IfSome result (λ part. part ≡ deviation_part g scope.now.main.teams scope.now.main.rounds scope.now.turning rule.now.body) }
+    {
+        if !self.is_known {
+            return None;
+        }
+        let known = u64::from(self.kept[i]);
+        if known == 0 {
+            return Some(0);
+        }
+        part_of_known(rule, scope.main, scope.turning, known)
     }
 
     /// Keeps the deviations after the exchange of the rules that it can alter.

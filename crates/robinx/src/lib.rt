@@ -30,5 +30,5 @@ pub use deviations::deviation;
 pub use home_counts::HomeCounts;
 pub use laws::{deviations_balance, nothing_to_alter, untouched_stays};
 pub use looked_past::looks_past;
-pub use parts::deviation_part;
+pub use parts::{deviation_part, part_of_known};
 pub use touched_rules::{looks_at_round, touches};

@@ -1,12 +1,13 @@
 //! The parts of deviations that a change can alter, for a cost that is kept over a change.
 
-ghost use Rattle.std.specs.Prelude.{◌≡◌, ℕ, ◌<◌, ◌&&◌, if◌then◌else◌};
+ghost use Rattle.std.specs.Prelude.{◌≡◌, ℕ, ◌<◌, ◌&&◌, if◌then◌else◌, IfSome};
 ghost use Rattle.league.specs.Limits.{deviation_limit};
 ghost use Rattle.league.specs.RuleLimits.{IsBodyFor};
 ghost use Rattle.league.specs.Sets.{has, IsBelow};
-ghost use Rattle.fixtures.specs.Games.{IsDoubleRoundRobin};
+ghost use Rattle.fixtures.specs.Games.{Games, IsDoubleRoundRobin};
 ghost use Rattle.robinx.specs.Deviations.{deviation};
-ghost use Rattle.robinx.specs.Parts.{counts_otherwise, changing_terms, deviation_part};
+ghost use Rattle.robinx.specs.Parts.{can_alter, counts_otherwise, changing_terms, deviation_part};
+ghost use Rattle.robinx.specs.Touches.{has_touched_team};
 ghost use Rattle.robinx.specs.within.Walked.{counted_of};
 
 use crate::around::{Around, teams_otherwise};
@@ -48,6 +49,31 @@ pub fn deviation_part(
         sides,
     };
     changing_terms(schedule, rule, &change, counts)
+}
+
+/// That part of a deviation that is known, if it is all of it or none of it, whatever the games are: so it is of BR2 and of FA2.
+pub fn part_of_known(rule: &Rule, main: Touched, sides: TeamSet, known: u64) -> Option<u64>
+    ensures { (g : Games) → known ≡ deviation g rule.now.body → IfSome result
+        (λ part. part ≡ deviation_part g main.teams main.rounds sides rule.now.body) }
+{
+    match &rule.body {
+        RuleBody::Br2 { teams, .. } => Some(if_turned(rule, *teams, main, sides, known)),
+        RuleBody::Fa2 { teams, .. } => Some(if_turned(rule, *teams, main, sides, known)),
+        _ => None,
+    }
+}
+
+/// All of it if one of the teams may change its sides and the change can alter what the rule looks at, otherwise none.
+#[tactic(auto, unfolding(crate::specs::Touches::has_touched_team))]
+fn if_turned(rule: &Rule, teams: TeamSet, main: Touched, sides: TeamSet, known: u64) -> u64
+    ensures { result ≡
+        (if has_touched_team teams (has sides) && can_alter rule.now.body (has main.rounds) then known else 0) }
+{
+    if teams.intersects(sides) && can_alter(rule, main.rounds) {
+        known
+    } else {
+        0
+    }
 }
 
 /// The part for a rule whose deviation a change in its rounds can alter.
