@@ -1,5 +1,5 @@
 -- A walk over the rules that an exchange can alter counts what all rules do.
-use Rattle.std.proofs.Common.{◌≡◌, ℕ, ◌||◌, ◌==◌, Bool, true, false, if◌then◌else◌, length, slice_get, Option, Some, None, refl, sym, ◌∙◌, ap}
+use Rattle.std.proofs.Common.{◌≡◌, ℕ, ◌||◌, ◌&&◌, ◌==◌, not, Bool, true, false, if◌then◌else◌, length, slice_get, Option, Some, None, refl, sym, ◌∙◌, ap}
 use Rattle.std.proofs.lemmas.Bool.{and_parts}
 use Rattle.league.specs.League.{LeagueData, teams, IsLeague}
 use Rattle.league.specs.Sets.{has}
@@ -13,7 +13,10 @@ use Rattle.fixtures.specs.declared.exchanges.Exchange.TheVariants as edit
 use Rattle.fixtures.specs.Exchanges.{main_cells, turning_team}
 use Rattle.rule_index.proofs.ForCallers.{nothing_else_altered}
 use Rattle.costs.specs.within.CostParts.{rule_part, rules_part, KnowsRules}
+use Rattle.costs.specs.within.KeptDeviations.{AreKeptDeviations}
+use Rattle.costs.specs.declared.kept_deviations.KeptDeviations.{KeptDeviations}
 use Rattle.costs.specs.declared.scope.Scope.{Scope}
+use Rattle.costs.proofs.KeptDeviations.{AreMaybeBroken, no_part}
 use Rattle.costs.proofs.Parts.{rule_for}
 
 -- only main teams turn
@@ -46,3 +49,25 @@ module _ (penalty : Weight → ℕ → ℕ) (nothing : (weight : Weight) → pen
           rule_part penalty scope.main scope.turning g (slice_get l.rules i)
       by_test i true e = refl
       by_test i false e = sym (part_nothing i (slice_get l.rules i) refl e)
+
+-- rules that are known not to be broken add nothing
+pub unbroken_nothing : (penalty : Weight → ℕ → ℕ) → ((weight : Weight) → penalty weight 0 ≡ 0) → (l : LeagueData) (scope : Scope) (g : Games)
+    (held : KeptDeviations) (set : ℕ) → AreKeptDeviations l.rules g held → AreMaybeBroken scope held.is_known held.broken set →
+    sum_where (length l.rules) (has set) (λ i. rule_part penalty scope.main scope.turning g (slice_get l.rules i)) ≡
+    sum_where (length l.rules) (has scope.rules) (λ i. rule_part penalty scope.main scope.turning g (slice_get l.rules i))
+unbroken_nothing penalty nothing l scope g held set are members =
+    sum_below_same (length l.rules) _ _
+    (λ i below. ap (λ (b : Bool). if b then part i (slice_get l.rules i) else 0) (members i) ∙ at i (slice_get l.rules i) refl (has scope.rules i) held.is_known (has held.broken i) refl refl)
+  where
+    part : ℕ → Option Rule → ℕ
+    part i rule = rule_part penalty scope.main scope.turning g rule
+
+    at : (i : ℕ) (rule : Option Rule) → slice_get l.rules i ≡ rule → (a known broken : Bool) → held.is_known ≡ known → has held.broken i ≡ broken →
+        (if a && (not known || broken) then part i rule else 0) ≡ (if a then part i rule else 0)
+    at i rule at_i false known broken k b = refl
+    at i rule at_i true false broken k b = refl
+    at i rule at_i true true true k b = refl
+    at i None at_i true true false k b = refl
+    at i (Some rule) at_i true true false k b =
+        let held_are = are.deviations k in
+        sym (ap (penalty rule.weight) (no_part g scope rule held.kept i (held_are.each i rule at_i) (sym b ∙ held_are.broken i rule at_i)) ∙ nothing rule.weight)

@@ -1,28 +1,35 @@
 -- What an evaluator of a league's schedules knows of its rules.
-use Rattle.std.specs.Prelude.{◌≡◌, ℕ, Bool, true, false, not, if◌then◌else◌, List, slice_get, slice_index, Option, Some, None, IfSome}
+use Rattle.std.specs.Prelude.{◌≡◌, ℕ, ◌==◌, Bool, true, false, not, if◌then◌else◌, List, slice_get, slice_index, Option, Some, None, IfSome}
 use Rattle.league.specs.League.{LeagueData}
 use Rattle.league.specs.Sets.{has}
 use Rattle.league.specs.declared.rule.Rule.{Rule}
 use Rattle.league.specs.declared.rule.RuleBody.{RuleBody}
-use Rattle.league.specs.declared.rule.RuleBody.TheVariants.{Fa2}
+use Rattle.league.specs.declared.rule.RuleBody.TheVariants.{Br2, Se1, Fa2}
 use Rattle.fixtures.specs.Games.{Games}
 use Rattle.robinx.specs.Deviations.{deviation}
 use Rattle.rule_index.specs.Alterable.{passes_at}
 use Rattle.rule_index.specs.Index.{IndexRows, IsIndexOf}
+
+-- how far a schedule is from each rule, and the set of those that it breaks
+pub record Deviations : Type 0 where
+  pub each : List ℕ
+  pub broken : ℕ
 
 -- which rules a change can alter, which are counted first and which last, and how far a schedule is from each, if that was counted
 pub record Known : Type 0 where
   pub index : IndexRows
   pub first : ℕ
   pub last : ℕ
-  pub deviations : Option (List ℕ)
+  pub deviations : Option Deviations
 
--- a list, if it is known
-abbrev pub if_known : Bool → List ℕ → Option (List ℕ)
-if_known known list = if known then Some list else None
+-- the deviations, if they are known
+abbrev pub if_known : Bool → List ℕ → ℕ → Option Deviations
+if_known known each broken = if known then Some (record { each = each; broken = broken }) else None
 
--- whether a rule takes long to count: it compares each two of its teams
+-- whether a rule takes long to count: it counts all its teams together, or compares each two of them
 unfoldable pub is_slow : RuleBody → Bool
+is_slow (Br2 teams slots most) = true
+is_slow (Se1 teams least) = true
 is_slow (Fa2 teams slots most) = true
 is_slow body = false
 
@@ -39,9 +46,10 @@ pub record IsEvaluatorOf (rules : List Rule) (known : Known) : Type 0 where
   pub index : IsIndexOf rules known.index
   pub order : IsOrderOf rules known.first known.last
 
--- the list has each rule's deviation on the schedule
-abbrev pub AreDeviations : List Rule → Games → List ℕ → Type 0
-AreDeviations rules g deviations = (i : ℕ) (rule : Rule) → slice_get rules i ≡ Some rule → slice_index deviations i ≡ deviation g rule.body
+-- these are the deviations of the schedule
+pub record AreDeviations (rules : List Rule) (g : Games) (deviations : Deviations) : Type 0 where
+  pub each : (i : ℕ) (rule : Rule) → slice_get rules i ≡ Some rule → slice_index deviations.each i ≡ deviation g rule.body
+  pub broken : (i : ℕ) (rule : Rule) → slice_get rules i ≡ Some rule → has deviations.broken i ≡ not (slice_index deviations.each i == 0)
 
 -- it is known of the league's rules and of this schedule
 pub record IsEvaluatorAt (l : LeagueData) (g : Games) (known : Known) : Type 0 where

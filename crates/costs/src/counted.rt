@@ -35,7 +35,7 @@ fn rest_of(
     ensures rest { IsRest league.now scope.now (exchanged_by schedule.now scope.now.attempt.exchange.now) result }
     ensures deviations { AreKeptDeviations league.now.rules schedule.now deviations.new }
     ensures same { IsKeptOf deviations.new deviations.old }
-    ensures rests { deviations.new.is_known ≡ true → AreRests league.now.rules scope.now (has scope.now.rules) schedule.now deviations.new.next }
+    ensures rests { deviations.new.is_known ≡ true → AreRests league.now.rules scope.now (has scope.now.rules) schedule.now deviations.new.kept deviations.new.next }
 {
     prove_eq!(league.teams(), schedule.teams());
     let rules = parts_of_rules(schedule, league, deviations, scope);
@@ -65,7 +65,7 @@ pub(crate) fn rest_within(
     ensures deviations { AreKeptDeviations league.now.rules schedule.now deviations.new }
     ensures same { IsKeptOf deviations.new deviations.old }
     ensures rests { deviations.new.is_known ≡ true →
-        AreRests league.now.rules scope.now (has scope.now.rules) schedule.now deviations.new.next }
+        AreRests league.now.rules scope.now (has scope.now.rules) schedule.now deviations.new.kept deviations.new.next }
 {
     prove_eq!(league.teams(), schedule.teams());
     let rest = rest_of(schedule, league, deviations, scope, predicted);
@@ -87,14 +87,15 @@ pub(crate) fn whole_within(
     requires same_size { teams league.now ≡ schedule.now.teams }
     requires rules { KnowsRules league.now scope.now }
     requires rest { IsRest league.now scope.now schedule.now rest }
+    requires kept_length { length deviations.old.kept ≡ max_rules }
     requires next_length { length deviations.old.next ≡ max_rules }
     requires rests { deviations.old.is_known ≡ true →
-        AreRests league.now.rules scope.now (has scope.now.rules) schedule.now deviations.old.next }
+        AreRests league.now.rules scope.now (has scope.now.rules) schedule.now deviations.old.kept deviations.old.next }
     ensures cost { IsCostWithin league.now scope.now.attempt.weight scope.now.attempt.limit schedule.now result }
     ensures same { IsKeptOf deviations.new deviations.old }
     ensures next_length { length deviations.new.next ≡ max_rules }
     ensures all { IfSome result (λ _. deviations.new.is_known ≡ true →
-        AreRests league.now.rules scope.now (λ _. false) schedule.now deviations.new.next) }
+        AreRests league.now.rules scope.now (λ _. false) schedule.now deviations.new.kept deviations.new.next) }
 {
     prove_eq!(league.teams(), schedule.teams());
     let begun = Cost {

@@ -30,10 +30,13 @@ impl CountingOrder {
     }
 }
 
-/// Whether the rule takes long to count: it compares each two of its teams.
+/// Whether the rule takes long to count: it counts all its teams together, or compares each two of them.
 #[tactic(auto, unfolding(crate::specs::Evaluators::is_slow))]
 fn is_slow(rule: &Rule) -> bool
     ensures { result ≡ is_slow rule.now.body }
 {
-    matches!(&rule.body, RuleBody::Fa2 { .. })
+    matches!(
+        &rule.body,
+        RuleBody::Br2 { .. } | RuleBody::Se1 { .. } | RuleBody::Fa2 { .. }
+    )
 }

@@ -30,7 +30,7 @@ impl Model for Evaluator {
       index = e.index;
       first = e.order.first;
       last = e.order.last;
-      deviations = if_known e.deviations.is_known e.deviations.kept;
+      deviations = if_known e.deviations.is_known e.deviations.kept e.deviations.broken;
     } };
 
     ghost invariant = { λ e. (length e.deviations.kept ≡ max_rules) × (length e.deviations.next ≡ max_rules) };

@@ -1,5 +1,9 @@
 //! The deviations that are kept while exchanges are judged on one schedule after another.
 
+ghost use Rattle.std.specs.Prelude.{◌≡◌, ℕ, ◌<◌, ◌≤◌, ◌==◌, not, slice_index};
+ghost use Rattle.league.specs.Limits.{max_rules};
+ghost use Rattle.league.specs.Sets.{has};
+
 use crate::scope::Scope;
 use fixtures::Schedule;
 use league::limits::MAX_RULES;
@@ -14,16 +18,17 @@ const TRIES: u8 = 16;
 pub(crate) struct KeptDeviations {
     pub(crate) counts: HomeCounts,
     pub(crate) is_known: bool,
-    /// The deviation from each rule, if they are known.
+    /// The deviation from each rule, and the rules that are broken, if they are known.
     pub(crate) kept: [u32; MAX_RULES],
-    /// Of each rule that an exchange can alter, the deviation without the part that it can alter, and then the deviation after it.
+    pub(crate) broken: RuleSet,
+    /// Of each broken rule that an exchange can alter, the deviation without the part that it can alter, and then the deviation after it.
     pub(crate) next: [u32; MAX_RULES],
     /// How many exchanges are judged before the deviations are counted.
     tries: u8,
 }
 
 impl KeptDeviations {
-    ghost use Rattle.std.specs.Prelude.{◌≡◌, ℕ, ◌<◌, if◌then◌else◌, length, slice_index, true, false, IfSome};
+    ghost use Rattle.std.specs.Prelude.{◌≡◌, ℕ, ◌<◌, ◌≤◌, ◌==◌, ◌&&◌, ◌||◌, not, if◌then◌else◌, length, slice_index, true, false, IfSome};
     ghost use Rattle.league.specs.League.{teams};
     ghost use Rattle.league.specs.Limits.{deviation_limit, max_rules};
     ghost use Rattle.league.specs.RuleLimits.{IsBodyFor};
@@ -31,7 +36,7 @@ impl KeptDeviations {
     ghost use Rattle.fixtures.specs.Games.{Games};
     ghost use Rattle.robinx.specs.Deviations.{deviation};
     ghost use Rattle.robinx.specs.Parts.{deviation_part};
-    ghost use Rattle.costs.specs.within.KeptDeviations.{AreKeptDeviations, IsKeptOf};
+    ghost use Rattle.costs.specs.within.KeptDeviations.{AreKeptDeviations, IsKeptOf, rest_at};
 
     /// Nothing counted yet.
     pub(crate) fn new() -> KeptDeviations
@@ -43,6 +48,7 @@ impl KeptDeviations {
             counts: HomeCounts::new(),
             is_known: false,
             kept: [0; MAX_RULES],
+            broken: RuleSet::empty(),
             next: [0; MAX_RULES],
             tries: TRIES,
         }
@@ -75,7 +81,29 @@ impl KeptDeviations {
         for i in 0..league.rule_count() {
             self.kept[i] = deviation(schedule, league.rule(i)) as u32;
         }
+        self.broken = broken_rules(&self.kept, league.rule_count());
         self.is_known = true;
+    }
+
+    /// Of some rules those that may be broken: all of them if the deviations aren't known.
+    pub(crate) fn maybe_broken(&self, rules: RuleSet) -> RuleSet
+        ensures members { (i : ℕ) → has result i ≡ (has rules i && (not self.now.is_known || has self.now.broken i)) }
+        ensures below { (m : ℕ) → IsBelow m rules → IsBelow m result }
+    {
+        if self.is_known {
+            rules.intersection(self.broken)
+        } else {
+            rules
+        }
+    }
+
+    /// What is put down of a rule's deviation, of one that isn't broken nothing.
+    pub(crate) fn rest(&self, i: usize) -> u32
+        requires kept { i < length self.now.kept }
+        requires next { i < length self.now.next }
+        ensures { result ≡ rest_at self.now.kept self.now.next i }
+    {
+        if self.kept[i] == 0 { 0 } else { self.next[i] }
     }
 
     /// The part of a rule's deviation that the exchange can alter, before it. Nothing is counted where the deviation that is known tells it.
@@ -117,19 +145,36 @@ impl KeptDeviations {
         part_of_known(rule, scope.main, scope.turning, known)
     }
 
-    /// Keeps the deviations after the exchange of the rules that it can alter.
-    pub(crate) fn keep(&mut self, rules: RuleSet)
+    /// Keeps the deviations after the exchange of the rules that it can alter, of so many rules.
+    pub(crate) fn keep(&mut self, rules: RuleSet, count: usize)
         requires kept_length { length self.old.kept ≡ max_rules }
         requires next_length { length self.old.next ≡ max_rules }
         requires rules { IsBelow max_rules rules }
+        requires count { count ≤ max_rules }
         ensures known { self.new.is_known ≡ self.old.is_known }
         ensures kept_length { length self.new.kept ≡ max_rules }
         ensures next { self.new.next ≡ self.old.next }
         ensures kept { (i : ℕ) → slice_index self.new.kept i ≡
             (if has rules i then slice_index self.old.next i else slice_index self.old.kept i) }
+        ensures broken { (i : ℕ) → i < count → has self.new.broken i ≡ not (slice_index self.new.kept i == 0) }
     {
         for i in rules {
             self.kept[i] = self.next[i];
         }
+        self.broken = broken_rules(&self.kept, count);
     }
+}
+
+/// Of so many rules those whose deviation isn't 0.
+fn broken_rules(deviations: &[u32; MAX_RULES], count: usize) -> RuleSet
+    requires { count ≤ max_rules }
+    ensures { (i : ℕ) → i < count → has result i ≡ not (slice_index deviations.now i == 0) }
+{
+    let mut broken = RuleSet::empty();
+    for i in 0..count {
+        if deviations[i] > 0 {
+            broken = broken.with(i);
+        }
+    }
+    broken
 }

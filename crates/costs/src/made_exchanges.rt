@@ -86,7 +86,7 @@ pub fn make_within(
     if cost.is_none() {
         exchange.make(schedule);
     } else {
-        deviations.keep(scope.rules);
+        deviations.keep(scope.rules, league.rule_count());
     }
     cost
 }

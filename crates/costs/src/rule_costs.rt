@@ -35,8 +35,8 @@ pub(crate) fn costs_of_rules(schedule: &Schedule, league: &League) -> Penalties
     costs
 }
 
-/// The part of these that the exchange of the scope can alter. None is counted of a rule that is known not to be broken. Each rule's deviation without
-/// the part goes into the deviations.
+/// The part of these that the exchange of the scope can alter. Of rules that are known not to be broken it is 0. Each other one's deviation
+/// without the part goes into the deviations.
 pub(crate) fn parts_of_rules(
     schedule: &Schedule,
     league: &League,
@@ -52,11 +52,12 @@ pub(crate) fn parts_of_rules(
     ensures soft_most { result.soft ≤ max_rules * (max_weight * deviation_limit) }
     ensures deviations { AreKeptDeviations league.now.rules schedule.now deviations.new }
     ensures same { IsKeptOf deviations.new deviations.old }
-    ensures rests { deviations.new.is_known ≡ true → AreRests league.now.rules scope.now (has scope.now.rules) schedule.now deviations.new.next }
+    ensures rests { deviations.new.is_known ≡ true → AreRests league.now.rules scope.now (has scope.now.rules) schedule.now deviations.new.kept deviations.new.next }
 {
     prove_eq!(league.teams(), schedule.teams());
     let mut costs = Penalties { hard: 0, soft: 0 };
-    for i in scope.rules {
+    let rules = deviations.maybe_broken(scope.rules);
+    for i in rules {
         let rule = league.rule(i);
         let part = deviations.part_before(schedule, rule, i, scope);
         deviations.next[i] = deviations.kept[i].saturating_sub(part as u32);
@@ -81,6 +82,7 @@ pub(crate) fn with_rules(
     requires below { IsBelow (length league.now.rules) rules }
     requires alterable { (i : ℕ) → has rules i ≡ true → has scope.now.rules i ≡ true }
     requires before { IsWithin league.now scope.now rules schedule.now before }
+    requires kept_length { length deviations.old.kept ≡ max_rules }
     requires next_length { length deviations.old.next ≡ max_rules }
     ensures cost { MatchOption result (scope.now.attempt.limit < score_by scope.now.attempt.weight (cost_of league.now schedule.now))
         (λ counted. counted ≡ with_penalties before (parts_of league.now scope.now rules schedule.now)) }
@@ -98,7 +100,7 @@ pub(crate) fn with_rules(
         let rule = league.rule(i);
         let counts = &mut deviations.counts;
         let part = deviation_part(schedule, rule, scope.main, scope.turning, counts);
-        deviations.next[i] = deviations.next[i].saturating_add(part as u32);
+        deviations.next[i] = deviations.rest(i).saturating_add(part as u32);
         let added = Penalties::of_rule(rule.weight, part);
         cost.hard += added.hard;
         cost.soft += added.soft;

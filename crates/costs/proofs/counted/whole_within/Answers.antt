@@ -61,11 +61,11 @@ pub returns-clause-all : goal.returns-clause-all
 returns-clause-all c =
     c.in_ok-cost.ensures.whole (λ _. false) (λ i in_last. refl)
     (λ known.
-    rests_same c.args.league.now.rules c.args.scope.now (has c.args.scope.now.last) _ c.args.schedule.now _
+    rests_same c.args.league.now.rules c.args.scope.now (has c.args.scope.now.last) _ c.args.schedule.now _ _
     (λ i. or_false (has c.args.scope.now.last i))
     (c.in_ok-first.ensures.whole (has c.args.scope.now.last) c.requires.rules.apart
     (λ was_known.
-    rests_same c.args.league.now.rules c.args.scope.now (has c.args.scope.now.rules) _ c.args.schedule.now _ c.requires.rules.both
+    rests_same c.args.league.now.rules c.args.scope.now (has c.args.scope.now.rules) _ c.args.schedule.now _ _ c.requires.rules.both
     (c.requires.rests was_known))
     known))
   where

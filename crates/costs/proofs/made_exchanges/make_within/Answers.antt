@@ -1,12 +1,15 @@
-use Rattle.std.proofs.Common.{◌≡◌, not, false, length, sym, ◌∙◌, ap, subst, arith}
+use Rattle.std.proofs.Common.{◌≡◌, ℕ, not, false, Some, slice_get, length, sym, ◌∙◌, ap, subst, arith}
 use Rattle.costs.specs.declared.attempt.Attempt.{Attempt}
 use Rattle.costs.specs.within.CostParts.{IsPredicted}
 use Rattle.league.specs.Sets.{has}
 use Rattle.fixtures.specs.Exchanges.{exchanged_by}
 use Rattle.fixtures.specs.Games.{Games}
 use Rattle.costs.specs.within.KeptDeviations.{AreRests}
-use Rattle.costs.specs.Evaluators.{AreDeviations, IsEvaluatorOf}
-use Rattle.costs.proofs.KeptDeviations.{from_some, kept_after, known_at, rests_after, still_deviations}
+use Rattle.costs.specs.Evaluators.{IsEvaluatorOf}
+use Rattle.std.specs.Prelude.{slice_index}
+use Rattle.league.specs.declared.rule.Rule.{Rule}
+use Rattle.robinx.specs.Deviations.{deviation}
+use Rattle.costs.proofs.KeptDeviations.{index_below, from_some, kept_after, known_at, rests_after, still_deviations}
 use Rattle.costs.proofs.Parts.{predicted_alone, score_after, within_is_small}
 use Rattle.costs.proofs.made_exchanges.make_within.Goals as goal
 use Rattle.costs.proofs.made_exchanges.make_within.Goals.{then-is_none, else-is_none}
@@ -53,10 +56,10 @@ schedule_is c =
 
 pub whole_within-cost-requires-clause-rests : goal.whole_within-cost-requires-clause-rests
 whole_within-cost-requires-clause-rests c = λ known.
-    subst (λ (g : Games). AreRests c.args.league.now.rules c.of-scope.result (has c.of-scope.result.rules) g c.rest_within.new.deviations.next)
+    subst (λ (g : Games). AreRests c.args.league.now.rules c.of-scope.result (has c.of-scope.result.rules) g c.rest_within.new.deviations.kept c.rest_within.new.deviations.next)
     (schedule_is c)
     (rests_after c.args.league.now c.args.schedule.now c.of-scope.result c.teams.ensures.limits c.requires.same_size c.of-scope.ensures.scope
-    _ (c.rest_within.ensures.rests known))
+    _ _ (c.rest_within.ensures.rests known))
 
 pub returns-clause-evaluator : goal.returns-clause-evaluator
 returns-clause-evaluator c =
@@ -81,15 +84,24 @@ returns-clause-evaluator c =
                   next_length = ap length w.keep.ensures.next ∙ c.whole_within-cost.ensures.next_length;
                   deviations = λ known.
                       let was_known = sym w.keep.ensures.known ∙ known in
-                      subst (λ (g : Games). AreDeviations c.args.league.now.rules g w.keep.new.self.kept) moved
-                      (kept_after c.args.league.now c.args.schedule.now c.of-scope.result c.teams.ensures.limits c.requires.same_size
-                      c.of-scope.ensures.scope (c.of-scope.ensures.rules c.args.league.now c.requires.evaluator.league) c.whole_within-cost.new.deviations.next
-                      c.whole_within-cost.new.deviations.kept w.keep.new.self.kept (kept.deviations was_known)
-                      (subst (λ (g : Games). AreRests c.args.league.now.rules c.of-scope.result (λ _. false) g c.whole_within-cost.new.deviations.next)
-                      (sym moved)
-                      (from_some c.whole_within-cost.result _ (c.is_none.ensures ∙ ap not w.if-is_none.false) c.whole_within-cost.ensures.all
-                      was_known))
-                      w.keep.ensures.kept);
+                      record {
+                        each = subst
+                            (λ (g : Games). (i : ℕ) (rule : Rule) → slice_get c.args.league.now.rules i ≡ Some rule →
+                            slice_index w.keep.new.self.kept i ≡ deviation g rule.body)
+                            moved
+                            (kept_after c.args.league.now c.args.schedule.now c.of-scope.result c.teams.ensures.limits c.requires.same_size
+                            c.of-scope.ensures.scope (c.of-scope.ensures.rules c.args.league.now c.requires.evaluator.league) c.whole_within-cost.new.deviations.kept
+                            c.whole_within-cost.new.deviations.next c.whole_within-cost.new.deviations.kept w.keep.new.self.kept
+                            c.whole_within-cost.new.deviations.broken (kept.deviations was_known)
+                            (subst
+                            (λ (g : Games). AreRests c.args.league.now.rules c.of-scope.result (λ _. false) g c.whole_within-cost.new.deviations.kept c.whole_within-cost.new.deviations.next)
+                            (sym moved)
+                            (from_some c.whole_within-cost.result _ (c.is_none.ensures ∙ ap not w.if-is_none.false) c.whole_within-cost.ensures.all
+                            was_known))
+                            w.keep.ensures.kept);
+                        broken = λ i rule at.
+                            w.keep.ensures.broken i (omega (arith, index_below c.args.league.now.rules i rule at, w.rule_count-else-is_none.ensures.value));
+                      };
                 });
           })
     ]

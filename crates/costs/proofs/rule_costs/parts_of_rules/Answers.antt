@@ -1,4 +1,4 @@
-use Rattle.std.proofs.Common.{◌≡◌, ◌<◌, length, get_or, refl, ◌∙◌, sym, ap, true, true≢false, arith}
+use Rattle.std.proofs.Common.{◌≡◌, ◌&&◌, ◌||◌, not, ◌<◌, length, get_or, refl, ◌∙◌, sym, ap, true, true≢false, arith}
 use Rattle.std.proofs.lemmas.List.{length-set}
 use Rattle.league.specs.Limits.{max_rules}
 use Rattle.league.specs.Sets.{has, IsBelow}
@@ -6,22 +6,21 @@ use Rattle.league.proofs.ForCallers.{lowest_below, sum_without_none, sum_without
 use Rattle.robinx.proofs.ForCallers.{part_le}
 use Rattle.costs.specs.Costs.{hard_penalty, soft_penalty}
 use Rattle.costs.specs.within.CostParts.{rule_part}
-use Rattle.costs.proofs.KeptDeviations.{rest_more}
+use Rattle.costs.proofs.KeptDeviations.{rest_more, rests_all}
 use Rattle.costs.proofs.PartLimits.{hard_nothing, soft_nothing}
-use Rattle.costs.proofs.Walked.{walked}
+use Rattle.costs.proofs.Walked.{unbroken_nothing, walked}
 use Rattle.costs.proofs.rule_costs.parts_of_rules.Goals as goal
 
 pub loop-i-init : goal.loop-i-init
 loop-i-init c =
     let below : IsBelow (length c.args.league.now.rules) c.into_iter-i-iterator.result =
-    rw c.into_iter-i-iterator.ensures.into_iter_gives c.requires.rules.below in
+    rw c.into_iter-i-iterator.ensures.into_iter_gives (c.maybe_broken-rules.ensures.below _ c.requires.rules.below) in
     record {
-      hard = sum_without_none _ _ _ _ _ below c.into_iter-i-iterator.ensures.into_iter_gives;
-      soft = sum_without_none _ _ _ _ _ below c.into_iter-i-iterator.ensures.into_iter_gives;
-      same = record { known = refl; kept = refl };
+      hard = sum_without_none _ _ _ _ _ below refl;
+      soft = sum_without_none _ _ _ _ _ below refl;
+      same = record { known = refl; kept = refl; broken = refl };
       next_length = c.requires.deviations.next_length;
-      rests = λ known k rule at in_scope gone.
-          absurd (true≢false (sym in_scope ∙ sym (ap (λ set. has set k) c.into_iter-i-iterator.ensures.into_iter_gives) ∙ gone));
+      rests = λ known k rule at in_walked gone. absurd (true≢false (sym in_walked ∙ gone));
     }
 
 pub rule-rule-requires : goal.rule-rule-requires
@@ -63,18 +62,22 @@ loop-i-preserved c =
           (rw step.value at c.of_rule-added.ensures.soft ∙
           ap (rule_part soft_penalty c.args.scope.now.main c.args.scope.now.turning c.args.schedule.now) (sym c.rule-rule.ensures.value))
           c.of_rule-added.ensures.soft_most;
-      same = record { known = step.same.known ∙ c.loop-i.invariant.same.known; kept = step.same.kept ∙ c.loop-i.invariant.same.kept };
+      same = record {
+        known = step.same.known ∙ c.loop-i.invariant.same.known;
+        kept = step.same.kept ∙ c.loop-i.invariant.same.kept;
+        broken = step.same.broken ∙ c.loop-i.invariant.same.broken;
+      };
       next_length = length-set _ _ _ ∙ ap length step.next ∙ c.loop-i.invariant.next_length;
       rests = λ known.
           let was_known : c.loop-i.deviations.is_known ≡ true = sym step.same.known ∙ known in
-          let deviation_is = c.requires.deviations.deviations (sym c.loop-i.invariant.same.known ∙ was_known) c.in-Some.i c.rule-rule.result.now
+          let deviation_is = (c.requires.deviations.deviations (sym c.loop-i.invariant.same.known ∙ was_known)).each c.in-Some.i c.rule-rule.result.now
           c.rule-rule.ensures.value in
           let kept : get_or c.part_before-part.new.self.kept c.in-Some.i 0 ≡ get_or c.args.deviations.now.kept c.in-Some.i 0 =
           ap (λ kept. get_or kept c.in-Some.i 0) (step.same.kept ∙ c.loop-i.invariant.same.kept) in
           let least = part_le c.args.schedule.now c.args.scope.now.main.teams c.args.scope.now.main.rounds c.args.scope.now.turning
           c.rule-rule.result.now.body in
           rw step.next
-          (rest_more c.args.league.now.rules c.args.scope.now _ _ _ c.args.schedule.now c.loop-i.deviations.next c.rule-rule.result.now _
+          (rest_more c.args.league.now.rules c.args.scope.now _ _ _ _ c.args.schedule.now c.loop-i.deviations.next c.rule-rule.result.now _
           (omega (arith, below, c.teams.ensures.limits.rule_count, c.loop-i.invariant.next_length))
           taken c.rule-rule.ensures.value
           (omega (arith, c.saturating_sub.ensures, step.value, deviation_is, kept, least)) (c.loop-i.invariant.rests was_known));
@@ -82,12 +85,28 @@ loop-i-preserved c =
 
 pub returns-clause-hard : goal.returns-clause-hard
 returns-clause-hard c =
-    sum_without_all _ _ _ _ _ _ _ c.loop-i.invariant.hard c.in-None.ensures.steps.0 (λ k below. refl) ∙
+    sum_without_all _ _ _ _ _ (has c.maybe_broken-rules.result) _ c.loop-i.invariant.hard c.in-None.ensures.steps.0
+    (λ k below. ap (λ set. has set k) c.into_iter-i-iterator.ensures.into_iter_gives) ∙
+    unbroken_nothing hard_penalty hard_nothing c.args.league.now c.args.scope.now c.args.schedule.now c.args.deviations.now _
+    c.requires.deviations c.maybe_broken-rules.ensures.members ∙
     walked hard_penalty hard_nothing c.args.league.now c.args.scope.now c.args.schedule.now c.teams.ensures.limits c.requires.same_size
     c.teams-2.ensures.round_robin c.requires.rules
 
 pub returns-clause-soft : goal.returns-clause-soft
 returns-clause-soft c =
-    sum_without_all _ _ _ _ _ _ _ c.loop-i.invariant.soft c.in-None.ensures.steps.0 (λ k below. refl) ∙
+    sum_without_all _ _ _ _ _ (has c.maybe_broken-rules.result) _ c.loop-i.invariant.soft c.in-None.ensures.steps.0
+    (λ k below. ap (λ set. has set k) c.into_iter-i-iterator.ensures.into_iter_gives) ∙
+    unbroken_nothing soft_penalty soft_nothing c.args.league.now c.args.scope.now c.args.schedule.now c.args.deviations.now _
+    c.requires.deviations c.maybe_broken-rules.ensures.members ∙
     walked soft_penalty soft_nothing c.args.league.now c.args.scope.now c.args.schedule.now c.teams.ensures.limits c.requires.same_size
     c.teams-2.ensures.round_robin c.requires.rules
+
+pub returns-clause-rests : goal.returns-clause-rests
+returns-clause-rests c = λ known.
+    let was_known : c.args.deviations.now.is_known ≡ true = sym c.loop-i.invariant.same.known ∙ known in
+    rw c.loop-i.invariant.same.kept
+    (rests_all c.args.league.now.rules c.args.scope.now c.into_iter-i-iterator.result c.loop-i.i-iterator c.args.schedule.now
+    c.args.deviations.now.kept c.loop-i.deviations.next c.args.deviations.now.broken c.in-None.ensures.steps.0
+    (λ i. ap (λ set. has set i) c.into_iter-i-iterator.ensures.into_iter_gives ∙ c.maybe_broken-rules.ensures.members i ∙
+    ap (λ b. has c.args.scope.now.rules i && (not b || has c.args.deviations.now.broken i)) was_known)
+    (c.requires.deviations.deviations was_known) (c.loop-i.invariant.rests known))

@@ -7,6 +7,7 @@ use Rattle.league.proofs.ForCallers.{has_empty, lowest_below, lowest_gone, other
 use Rattle.robinx.specs.Deviations.{deviation}
 use Rattle.robinx.specs.Parts.{deviation_part}
 use Rattle.robinx.proofs.ForCallers.{deviation_below}
+use Rattle.costs.specs.within.KeptDeviations.{rest_at}
 use Rattle.costs.proofs.KeptDeviations.{rest_taken, rests_same}
 use Rattle.costs.proofs.Parts.{rule_for}
 use Rattle.costs.proofs.Partial.{IsCountedWithout, all_counted, no_more, none_counted, one_more_counted}
@@ -19,11 +20,11 @@ loop-i-init c =
     record {
       counted = counted;
       no_more = no_more c.args.scope.now.attempt.weight (omega arith) c.teams.ensures.limits c.requires.same_size c.requires.before counted;
-      same = record { known = refl; kept = refl };
+      same = record { known = refl; kept = refl; broken = refl };
       next_length = c.requires.next_length;
       within = λ i has_it. sym (ap (λ set. has set i) c.into_iter-i-iterator.ensures.into_iter_gives) ∙ has_it;
       rests = λ others apart before known.
-          rests_same c.args.league.now.rules c.args.scope.now _ _ c.args.schedule.now _
+          rests_same c.args.league.now.rules c.args.scope.now _ _ c.args.schedule.now _ _
           (λ i. ap (λ set. has set i || others i) (sym c.into_iter-i-iterator.ensures.into_iter_gives)) (before known);
     }
 
@@ -40,7 +41,11 @@ loop-i-preserved c =
     record {
       counted = counted;
       no_more = no_more c.args.scope.now.attempt.weight (omega arith) c.teams.ensures.limits c.requires.same_size c.requires.before counted;
-      same = record { known = c.loop-i.invariant.same.known; kept = c.loop-i.invariant.same.kept };
+      same = record {
+        known = c.loop-i.invariant.same.known;
+        kept = c.loop-i.invariant.same.kept;
+        broken = c.loop-i.invariant.same.broken;
+      };
       next_length = length-set _ _ _ ∙ c.loop-i.invariant.next_length;
       within = λ i has_it. c.loop-i.invariant.within i (and_parts _ _ (sym (c.in-Some.ensures.steps.others i) ∙ has_it)).0;
       rests = λ others apart before known.
@@ -50,14 +55,16 @@ loop-i-preserved c =
           let in_rules : has c.args.rules c.in-Some.i ≡ true = c.loop-i.invariant.within c.in-Some.i c.in-Some.ensures.steps.in_set in
           let lacks : (has c.loop-i.i-iterator c.in-Some.i || others c.in-Some.i) ≡ true =
           ap (λ b. b || others c.in-Some.i) c.in-Some.ensures.steps.in_set in
-          let left : get_or c.loop-i.deviations.next c.in-Some.i 0 + part ≡ deviation c.args.schedule.now c.rule-rule.result.now.body =
-          ap (λ b. get_or c.loop-i.deviations.next c.in-Some.i 0 + (if b then part else 0)) (sym lacks) ∙
+          let left : rest_at c.loop-i.deviations.kept c.loop-i.deviations.next c.in-Some.i + part ≡
+          deviation c.args.schedule.now c.rule-rule.result.now.body =
+          ap (λ b. if b then rest_at c.loop-i.deviations.kept c.loop-i.deviations.next c.in-Some.i + part
+          else get_or c.loop-i.deviations.next c.in-Some.i 0) (sym lacks) ∙
           rests c.in-Some.i c.rule-rule.result.now c.rule-rule.ensures.value (c.requires.alterable c.in-Some.i in_rules) in
           let small : deviation c.args.schedule.now c.rule-rule.result.now.body < deviation_limit =
           deviation_below c.args.schedule.now c.rule-rule.result.now.body (omega (arith, c.teams-2.ensures.number, c.teams-2.ensures.most))
           (rule_for c.args.league.now c.args.schedule.now c.in-Some.i c.teams.ensures.limits c.requires.same_size c.rule-rule.result.now
           c.rule-rule.ensures.value) in
-          rest_taken c.args.league.now.rules c.args.scope.now _ (λ i. has c.next.new.self i || others i) c.in-Some.i c.args.schedule.now _
+          rest_taken c.args.league.now.rules c.args.scope.now _ (λ i. has c.next.new.self i || others i) c.in-Some.i c.args.schedule.now _ _
           c.rule-rule.result.now _
           (omega (
             arith,
@@ -68,7 +75,7 @@ loop-i-preserved c =
           lacks
           (ap (λ b. b || others c.in-Some.i) (lowest_gone _ _ _ c.in-Some.ensures.steps) ∙ apart c.in-Some.i in_rules)
           (λ k elsewhere. ap (λ b. b || others k) (others_kept _ _ _ k c.in-Some.ensures.steps elsewhere))
-          c.rule-rule.ensures.value (omega (arith, c.saturating_add.ensures, c.deviation_part-part.ensures.value, left, small)) rests;
+          c.rule-rule.ensures.value (omega (arith, c.saturating_add.ensures, c.rest.ensures, c.deviation_part-part.ensures.value, left, small)) rests;
     }
 
 pub returns-clause-cost : goal.returns-clause-cost
@@ -78,6 +85,6 @@ returns-clause-cost c =
 
 pub returns-clause-whole : goal.returns-clause-whole
 returns-clause-whole c = λ others apart before known.
-    rests_same c.args.league.now.rules c.args.scope.now _ _ c.args.schedule.now _
+    rests_same c.args.league.now.rules c.args.scope.now _ _ c.args.schedule.now _ _
     (λ i. ap (λ b. b || others i) (ap (λ set. has set i) c.in-None.ensures.steps.0 ∙ has_empty i))
     (c.loop-i.invariant.rests others apart before known)

@@ -14,7 +14,7 @@ invariant-loop-i l = record {
   within : (i : ℕ) → has l.i-iterator i ≡ true → has l.fn.rules i ≡ true;
   rests : (others : ℕ → Bool) → ((i : ℕ) → has l.fn.rules i ≡ true → others i ≡ false) →
       (l.fn.deviations.is_known ≡ true →
-      AreRests l.league.rules l.scope (λ i. has l.fn.rules i || others i) l.schedule l.fn.deviations.next) →
+      AreRests l.league.rules l.scope (λ i. has l.fn.rules i || others i) l.schedule l.fn.deviations.kept l.fn.deviations.next) →
       l.deviations.is_known ≡ true →
-      AreRests l.league.rules l.scope (λ i. has l.i-iterator i || others i) l.schedule l.deviations.next;
+      AreRests l.league.rules l.scope (λ i. has l.i-iterator i || others i) l.schedule l.deviations.kept l.deviations.next;
 }
