@@ -28,14 +28,14 @@ pub(crate) struct KeptDeviations {
 }
 
 impl KeptDeviations {
-    ghost use Rattle.std.specs.Prelude.{◌≡◌, ℕ, ◌<◌, ◌≤◌, ◌==◌, ◌&&◌, ◌||◌, not, if◌then◌else◌, length, slice_index, true, false, IfSome};
+    ghost use Rattle.std.specs.Prelude.{◌≡◌, ℕ, ◌<◌, ◌≤◌, ◌==◌, ◌&&◌, ◌||◌, not, if◌then◌else◌, length, slice_index, true, false, is_some, IfSome};
     ghost use Rattle.league.specs.League.{teams};
     ghost use Rattle.league.specs.Limits.{deviation_limit, max_rules};
     ghost use Rattle.league.specs.RuleLimits.{IsBodyFor};
     ghost use Rattle.league.specs.Sets.{has, IsBelow};
     ghost use Rattle.fixtures.specs.Games.{Games};
     ghost use Rattle.robinx.specs.Deviations.{deviation};
-    ghost use Rattle.robinx.specs.Parts.{deviation_part};
+    ghost use Rattle.robinx.specs.Parts.{deviation_part, is_all_or_none};
     ghost use Rattle.costs.specs.within.KeptDeviations.{AreKeptDeviations, IsKeptOf, rest_at};
 
     /// Nothing counted yet.
@@ -132,7 +132,9 @@ impl KeptDeviations {
     /// That part, if the deviations are known and the rule isn't broken, or the exchange can alter all of its deviation or nothing.
     fn known_part(&self, rule: &Rule, i: usize, scope: &Scope<'_>) -> Option<u64>
         requires index { i < length self.now.kept }
-        ensures { (g : Games) → (self.now.is_known ≡ true → slice_index self.now.kept i ≡ deviation g rule.now.body) →
+        ensures some { is_some result ≡
+            (self.now.is_known && (slice_index self.now.kept i == 0 || is_all_or_none rule.now.body)) }
+        ensures value { (g : Games) → (self.now.is_known ≡ true → slice_index self.now.kept i ≡ deviation g rule.now.body) →
             IfSome result (λ part. part ≡ deviation_part g scope.now.main.teams scope.now.main.rounds scope.now.turning rule.now.body) }
     {
         if !self.is_known {

@@ -1,12 +1,12 @@
 //! The parts of deviations that a change can alter, for a cost that is kept over a change.
 
-ghost use Rattle.std.specs.Prelude.{◌≡◌, ℕ, ◌<◌, ◌&&◌, if◌then◌else◌, IfSome};
+ghost use Rattle.std.specs.Prelude.{◌≡◌, ℕ, ◌<◌, ◌&&◌, if◌then◌else◌, is_some, IfSome};
 ghost use Rattle.league.specs.Limits.{deviation_limit};
 ghost use Rattle.league.specs.RuleLimits.{IsBodyFor};
 ghost use Rattle.league.specs.Sets.{has, IsBelow};
 ghost use Rattle.fixtures.specs.Games.{Games, IsDoubleRoundRobin};
 ghost use Rattle.robinx.specs.Deviations.{deviation};
-ghost use Rattle.robinx.specs.Parts.{can_alter, counts_otherwise, changing_terms, deviation_part};
+ghost use Rattle.robinx.specs.Parts.{can_alter, counts_otherwise, changing_terms, deviation_part, is_all_or_none};
 ghost use Rattle.robinx.specs.Touches.{has_touched_team};
 ghost use Rattle.robinx.specs.within.Walked.{counted_of};
 
@@ -52,8 +52,10 @@ pub fn deviation_part(
 }
 
 /// That part of a deviation that is known, if it is all of it or none of it, whatever the games are: so it is of BR2 and of FA2.
+#[tactic(auto, unfolding(crate::specs::Parts::is_all_or_none))]
 pub fn part_of_known(rule: &Rule, main: Touched, sides: TeamSet, known: u64) -> Option<u64>
-    ensures { (g : Games) → known ≡ deviation g rule.now.body → IfSome result
+    ensures some { is_some result ≡ is_all_or_none rule.now.body }
+    ensures value { (g : Games) → known ≡ deviation g rule.now.body → IfSome result
         (λ part. part ≡ deviation_part g main.teams main.rounds sides rule.now.body) }
 {
     match &rule.body {

@@ -27,15 +27,15 @@ unfolding deviation_part changing_terms
 fa2_part g main rounds sides teams slots most known is =
     both_asked known _ _ ∙ ap (λ n. if can_alter (Fa2 teams slots most) (has rounds) then (if has_touched_team teams (has sides) then n else 0) else 0) is
 
-pub returns-in-Br2 : goal.returns-in-Br2
-returns-in-Br2 c = λ g is.
+pub returns-in-Br2-clause-value : goal.returns-in-Br2-clause-value
+returns-in-Br2-clause-value c = λ g is.
     c.if_turned.ensures ∙
     rw c.in-Br2.is
     (br2_part g c.args.main.teams c.args.main.rounds c.args.sides c.in-Br2.teams c.in-Br2.slots c.in-Br2.most c.args.known
     (is ∙ ap (deviation g) c.in-Br2.is))
 
-pub returns-in-Fa2 : goal.returns-in-Fa2
-returns-in-Fa2 c = λ g is.
+pub returns-in-Fa2-clause-value : goal.returns-in-Fa2-clause-value
+returns-in-Fa2-clause-value c = λ g is.
     c.if_turned-in-Fa2.ensures ∙
     rw c.in-Fa2.is
     (fa2_part g c.args.main.teams c.args.main.rounds c.args.sides c.in-Fa2.teams c.in-Fa2.slots c.in-Fa2.most c.args.known

@@ -2,8 +2,8 @@ use Rattle.std.proofs.Common.{arith}
 use Rattle.robinx.proofs.ForCallers.{part_le}
 use Rattle.costs.proofs.kept_deviations.KeptDeviations.known_part.Goals as goal
 
-pub returns-then-known-eq0 : goal.returns-then-known-eq0
-returns-then-known-eq0 c = λ g kept.
+pub returns-then-known-eq0-clause-value : goal.returns-then-known-eq0-clause-value
+returns-then-known-eq0-clause-value c = λ g kept.
     omega (
       arith,
       part_le g c.args.scope.now.main.teams c.args.scope.now.main.rounds c.args.scope.now.turning c.args.rule.now.body,
