@@ -68,7 +68,7 @@ keep_all rules left next before kept none so_far i =
 
 abbrev pub RestsWithout : List Rule → Scope → ℕ → ℕ → Games → List ℕ → Type 0
 RestsWithout rules scope walked left g next = (k : ℕ) (rule : Rule) → slice_get rules k ≡ Some rule → has walked k ≡ true → has left k ≡ false →
-    slice_index next k + deviation_part g scope.main.teams scope.main.rounds scope.turning rule.body ≡ deviation g rule.body
+    slice_index next k + deviation_part g scope.main.teams scope.main.rounds scope.flipping rule.body ≡ deviation g rule.body
 
 -- a loop over the rules has found those of the first whose deviation isn't 0
 abbrev pub AreBrokenBelow : ℕ → List ℕ → ℕ → Type 0
@@ -117,16 +117,16 @@ one_rule rules k i one other here there same =
 
 pub rest_more : (rules : List Rule) (scope : Scope) (walked left lowest rest : ℕ) (g : Games) (next : List ℕ) (rule : Rule) (d : ℕ) →
     lowest < length next → IsWithoutLowest left lowest rest → slice_get rules lowest ≡ Some rule →
-    d + deviation_part g scope.main.teams scope.main.rounds scope.turning rule.body ≡ deviation g rule.body →
+    d + deviation_part g scope.main.teams scope.main.rounds scope.flipping rule.body ≡ deviation g rule.body →
     RestsWithout rules scope walked left g next → RestsWithout rules scope walked rest g (slice_set next lowest d)
 rest_more rules scope walked left lowest rest g next rule d within taken at one so_far k other there in_scope gone = elim (cases_eq k lowest) [
   | inl here ↦
-      ap (λ n. n + deviation_part g scope.main.teams scope.main.rounds scope.turning other.body)
+      ap (λ n. n + deviation_part g scope.main.teams scope.main.rounds scope.flipping other.body)
       (get_or-set_at next lowest k d 0 here within) ∙
-      subst (λ (r : Rule). d + deviation_part g scope.main.teams scope.main.rounds scope.turning r.body ≡ deviation g r.body)
+      subst (λ (r : Rule). d + deviation_part g scope.main.teams scope.main.rounds scope.flipping r.body ≡ deviation g r.body)
       (one_rule rules k lowest rule other at there here) one
   | inr elsewhere ↦
-      ap (λ n. n + deviation_part g scope.main.teams scope.main.rounds scope.turning other.body)
+      ap (λ n. n + deviation_part g scope.main.teams scope.main.rounds scope.flipping other.body)
       (get_or-set_other next lowest k d 0 elsewhere) ∙
       so_far k other there in_scope (sym (others_kept left lowest rest k taken elsewhere) ∙ gone)
 ]
@@ -137,10 +137,10 @@ AreMaybeBroken scope known broken walked = (i : ℕ) → has walked i ≡ (has s
 
 -- what has no deviation has no part
 pub no_part : (g : Games) (scope : Scope) (rule : Rule) (kept : List ℕ) (i : ℕ) → slice_index kept i ≡ deviation g rule.body →
-    false ≡ not (slice_index kept i == 0) → deviation_part g scope.main.teams scope.main.rounds scope.turning rule.body ≡ 0
+    false ≡ not (slice_index kept i == 0) → deviation_part g scope.main.teams scope.main.rounds scope.flipping rule.body ≡ 0
 no_part g scope rule kept i is unbroken =
     let zero : slice_index kept i ≡ 0 = eqb-true (slice_index kept i) 0 (not-false (slice_index kept i == 0) (sym unbroken)) in
-    omega (arith, part_le g scope.main.teams scope.main.rounds scope.turning rule.body, is, zero)
+    omega (arith, part_le g scope.main.teams scope.main.rounds scope.flipping rule.body, is, zero)
 
 -- so what is put down of all that it can alter, if the deviations are known
 pub rests_all : (rules : List Rule) (scope : Scope) (walked left : ℕ) (g : Games) (kept next : List ℕ) (broken : ℕ) → left ≡ 0 →
@@ -150,7 +150,7 @@ rests_all rules scope walked left g kept next broken none members are rests i ru
     ap (λ b. if b then rest_at kept next i + part else slice_index next i) in_scope ∙ by_test (has broken i) refl
   where
     part : ℕ
-    part = deviation_part g scope.main.teams scope.main.rounds scope.turning rule.body
+    part = deviation_part g scope.main.teams scope.main.rounds scope.flipping rule.body
 
     by_test : (b : Bool) → has broken i ≡ b → rest_at kept next i + part ≡ deviation g rule.body
     by_test true e =
@@ -169,23 +169,23 @@ rests_all rules scope walked left g kept next broken none members are rests i ru
 pub rest_taken : (rules : List Rule) (scope : Scope) (without fewer : ℕ → Bool) (index : ℕ) (g : Games) (kept next : List ℕ) (rule : Rule)
     (d : ℕ) → index < length next → without index ≡ true → fewer index ≡ false → ((k : ℕ) → k ≢ index → fewer k ≡ without k) →
     slice_get rules index ≡ Some rule →
-    d ≡ rest_at kept next index + deviation_part g scope.main.teams scope.main.rounds scope.turning rule.body →
+    d ≡ rest_at kept next index + deviation_part g scope.main.teams scope.main.rounds scope.flipping rule.body →
     AreRests rules scope without g kept next → AreRests rules scope fewer g kept (slice_set next index d)
 rest_taken rules scope without fewer index g kept next rule d within lacks has_it others at one so_far k other there in_scope =
     elim (cases_eq k index) [
       | inl here ↦
-          let part = deviation_part g scope.main.teams scope.main.rounds scope.turning other.body in
+          let part = deviation_part g scope.main.teams scope.main.rounds scope.flipping other.body in
           let before : rest_at kept next k + part ≡ deviation g other.body =
           ap (λ b. if b then rest_at kept next k + part else slice_index next k) (sym (ap without here ∙ lacks)) ∙ so_far k other there in_scope in
-          let same : deviation_part g scope.main.teams scope.main.rounds scope.turning rule.body ≡ part =
-          ap (λ (r : Rule). deviation_part g scope.main.teams scope.main.rounds scope.turning r.body)
+          let same : deviation_part g scope.main.teams scope.main.rounds scope.flipping rule.body ≡ part =
+          ap (λ (r : Rule). deviation_part g scope.main.teams scope.main.rounds scope.flipping r.body)
           (one_rule rules k index rule other at there here) in
           let gone : fewer k ≡ false = ap fewer here ∙ has_it in
           let written : get_or (slice_set next index d) k 0 ≡ d = get_or-set_at next index k d 0 here within in
           ap (λ b. if b then rest_at kept (slice_set next index d) k + part else get_or (slice_set next index d) k 0) gone ∙
           omega (arith, written, one, same, before, ap (λ j. rest_at kept next j) here)
       | inr elsewhere ↦
-          let part = deviation_part g scope.main.teams scope.main.rounds scope.turning other.body in
+          let part = deviation_part g scope.main.teams scope.main.rounds scope.flipping other.body in
           let stays : get_or (slice_set next index d) k 0 ≡ get_or next k 0 = get_or-set_other next index k d 0 elsewhere in
           ap (λ n. if fewer k then (if get_or kept k 0 == 0 then 0 else n) + part else n) stays ∙
           ap (λ b. if b then rest_at kept next k + part else get_or next k 0) (others k elsewhere) ∙
@@ -196,7 +196,7 @@ rest_taken rules scope without fewer index g kept next rule d within lacks has_i
 pub rests_same : (rules : List Rule) (scope : Scope) (without other : ℕ → Bool) (g : Games) (kept next : List ℕ) →
     ((i : ℕ) → without i ≡ other i) → AreRests rules scope without g kept next → AreRests rules scope other g kept next
 rests_same rules scope without other g kept next same rests i rule at in_scope =
-    ap (λ b. if b then rest_at kept next i + deviation_part g scope.main.teams scope.main.rounds scope.turning rule.body else get_or next i 0)
+    ap (λ b. if b then rest_at kept next i + deviation_part g scope.main.teams scope.main.rounds scope.flipping rule.body else get_or next i 0)
     (sym (same i)) ∙
     rests i rule at in_scope
 
@@ -247,9 +247,9 @@ module _ (l : LeagueData) (g : Games) (scope : Scope) (is : IsLeague l) (same : 
       AreRests l.rules scope (has scope.rules) after kept next
   rests_after kept next rests i rule at in_scope =
       let balance = body_balances g scope are rule.body (rule_for l g i is same rule at) in
-      let before = ap (λ b. if b then rest_at kept next i + deviation_part g scope.main.teams scope.main.rounds scope.turning rule.body else get_or next i 0)
+      let before = ap (λ b. if b then rest_at kept next i + deviation_part g scope.main.teams scope.main.rounds scope.flipping rule.body else get_or next i 0)
       (sym in_scope) ∙ rests i rule at in_scope in
-      ap (λ b. if b then rest_at kept next i + deviation_part after scope.main.teams scope.main.rounds scope.turning rule.body else get_or next i 0)
+      ap (λ b. if b then rest_at kept next i + deviation_part after scope.main.teams scope.main.rounds scope.flipping rule.body else get_or next i 0)
       in_scope ∙
       omega (arith, balance, before)
 
@@ -264,9 +264,9 @@ module _ (l : LeagueData) (g : Games) (scope : Scope) (is : IsLeague l) (same : 
       by_test false e =
           let for_rule = rule_for l g i is same rule at in
           let out = sym (knows.rules i) ∙ e in
-          let none_before = nothing_else_altered g l.rules i rule scope.main.teams scope.main.rounds scope.turning are.can_be_made.round_robin at
+          let none_before = nothing_else_altered g l.rules i rule scope.main.teams scope.main.rounds scope.flipping are.can_be_made.round_robin at
           for_rule knows.sides out in
-          let none_after = nothing_else_altered after l.rules i rule scope.main.teams scope.main.rounds scope.turning
+          let none_after = nothing_else_altered after l.rules i rule scope.main.teams scope.main.rounds scope.flipping
           (round_robin_after g scope are) at
           (subst (λ n. IsBodyFor n rule.body) (sym (exchanged-teams g scope.attempt.exchange.now)) for_rule) knows.sides out in
           omega (arith, before.each i rule at, body_balances g scope are rule.body for_rule, none_before, none_after)

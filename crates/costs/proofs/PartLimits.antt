@@ -59,13 +59,13 @@ hard_le : (l : LeagueData) (scope : Scope) (g : Games) → (penalties_part l sco
 unfolding cost_of
 hard_le l scope g = omega (
   arith,
-  rules_part_le hard_penalty hard_grows l.rules scope.main scope.turning g,
+  rules_part_le hard_penalty hard_grows l.rules scope.main scope.flipping g,
   where_le l.phased _ _ (unphased_part_le g (has scope.main.teams)),
 )
 
 soft_le : (l : LeagueData) (scope : Scope) (g : Games) → (penalties_part l scope g).soft + near_cost l g ≤ (cost_of l g).soft
 unfolding cost_of
-soft_le l scope g = omega (arith, rules_part_le soft_penalty soft_grows l.rules scope.main scope.turning g)
+soft_le l scope g = omega (arith, rules_part_le soft_penalty soft_grows l.rules scope.main scope.flipping g)
 
 -- A deviation of 0 adds nothing.
 

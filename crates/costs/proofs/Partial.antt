@@ -55,8 +55,8 @@ none_counted l scope g set before left below all = rw all (record { below = belo
 
 pub one_more_counted : (l : LeagueData) (scope : Scope) (g : Games) (set : ℕ) (before cost next : Cost) (left index fewer : ℕ) (rule : Rule) →
     IsCountedWithout l scope g set before left cost → IsWithoutLowest left index fewer → slice_get l.rules index ≡ Some rule →
-    next.travel ≡ cost.travel → next.hard ≡ cost.hard + rule_part hard_penalty scope.main scope.turning g (Some rule) →
-    next.soft ≡ cost.soft + rule_part soft_penalty scope.main scope.turning g (Some rule) → IsCountedWithout l scope g set before fewer next
+    next.travel ≡ cost.travel → next.hard ≡ cost.hard + rule_part hard_penalty scope.main scope.flipping g (Some rule) →
+    next.soft ≡ cost.soft + rule_part soft_penalty scope.main scope.flipping g (Some rule) → IsCountedWithout l scope g set before fewer next
 one_more_counted l scope g set before cost next left index fewer rule is taken at travel hard soft =
     let here : index < length l.rules = lowest_below (length l.rules) left index fewer is.below taken in
     record {
@@ -66,17 +66,17 @@ one_more_counted l scope g set before cost next left index fewer rule is taken a
         arith,
         is.hard,
         hard,
-        ap (rule_part hard_penalty scope.main scope.turning g) at,
+        ap (rule_part hard_penalty scope.main scope.flipping g) at,
         sum_where_without (length l.rules) left index fewer
-            (λ i. rule_part hard_penalty scope.main scope.turning g (slice_get l.rules i)) here taken,
+            (λ i. rule_part hard_penalty scope.main scope.flipping g (slice_get l.rules i)) here taken,
       );
       soft = omega (
         arith,
         is.soft,
         soft,
-        ap (rule_part soft_penalty scope.main scope.turning g) at,
+        ap (rule_part soft_penalty scope.main scope.flipping g) at,
         sum_where_without (length l.rules) left index fewer
-            (λ i. rule_part soft_penalty scope.main scope.turning g (slice_get l.rules i)) here taken,
+            (λ i. rule_part soft_penalty scope.main scope.flipping g (slice_get l.rules i)) here taken,
       );
     }
 
@@ -86,8 +86,8 @@ all_counted l scope g set before cost left none is =
     let gone : (f : ℕ → ℕ) → sum_where (length l.rules) (has left) f ≡ 0 =
     λ f. sum_where_none (length l.rules) (has left) f (λ k below. ap (λ s. has s k) none ∙ has_empty k) in
     same_cost cost (with_penalties before (parts_of l scope set g)) is.travel
-    (omega (arith, is.hard, gone (λ i. rule_part hard_penalty scope.main scope.turning g (slice_get l.rules i))))
-    (omega (arith, is.soft, gone (λ i. rule_part soft_penalty scope.main scope.turning g (slice_get l.rules i))))
+    (omega (arith, is.hard, gone (λ i. rule_part hard_penalty scope.main scope.flipping g (slice_get l.rules i))))
+    (omega (arith, is.soft, gone (λ i. rule_part soft_penalty scope.main scope.flipping g (slice_get l.rules i))))
 
 -- a cost that with the rules that are counted first and those that are counted last is the schedule's
 pub record IsBegun (l : LeagueData) (scope : Scope) (g : Games) (cost : Cost) : Type 0 where
@@ -120,14 +120,14 @@ begun_is l scope g rest cost is same robin knows whole travel hard soft = record
     hard,
     ap (λ (cost : Cost). cost.hard) whole,
     walked hard_penalty hard_nothing l scope g is same robin knows,
-    parted l scope (λ i. rule_part hard_penalty scope.main scope.turning g (slice_get l.rules i)) knows,
+    parted l scope (λ i. rule_part hard_penalty scope.main scope.flipping g (slice_get l.rules i)) knows,
   );
   soft = omega (
     arith,
     soft,
     ap (λ (cost : Cost). cost.soft) whole,
     walked soft_penalty soft_nothing l scope g is same robin knows,
-    parted l scope (λ i. rule_part soft_penalty scope.main scope.turning g (slice_get l.rules i)) knows,
+    parted l scope (λ i. rule_part soft_penalty scope.main scope.flipping g (slice_get l.rules i)) knows,
   );
 }
 

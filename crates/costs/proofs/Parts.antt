@@ -45,25 +45,25 @@ around g scope is =
     (sym is.main) (each_around g scope.attempt.exchange.now is.can_be_made)
 
 sides : (g : Games) (scope : Scope) → IsScope g scope →
-    DiffersOnlyAt is_home g (exchanged_by g scope.attempt.exchange.now) (box (has scope.turning) (has scope.main.rounds))
+    DiffersOnlyAt is_home g (exchanged_by g scope.attempt.exchange.now) (box (has scope.flipping) (has scope.main.rounds))
 sides g scope is =
     subst (λ (main : TouchedCells). DiffersOnlyAt is_home g (exchanged_by g scope.attempt.exchange.now)
-    (box (has scope.turning) (has main.rounds)))
+    (box (has scope.flipping) (has main.rounds)))
     (sym is.main)
     (subst (λ teams. DiffersOnlyAt is_home g (exchanged_by g scope.attempt.exchange.now)
     (box teams (has (main_cells scope.attempt.exchange.now).rounds)))
-    (sym (fun_ext is.turning)) (each_sides g scope.attempt.exchange.now is.can_be_made))
+    (sym (fun_ext is.flipping)) (each_sides g scope.attempt.exchange.now is.can_be_made))
 
 pub round_robin_after : (g : Games) (scope : Scope) → IsScope g scope → IsDoubleRoundRobin (exchanged_by g scope.attempt.exchange.now)
 round_robin_after g scope is = (each_undone g scope.attempt.exchange.now is.can_be_made).again.round_robin
 
 -- what the exchange adds to the part of a deviation, it adds to the deviation
 pub body_balances : (g : Games) (scope : Scope) → IsScope g scope → (body : RuleBody) → IsBodyFor g.teams body →
-    deviation (exchanged_by g scope.attempt.exchange.now) body + deviation_part g scope.main.teams scope.main.rounds scope.turning body ≡
-    deviation g body + deviation_part (exchanged_by g scope.attempt.exchange.now) scope.main.teams scope.main.rounds scope.turning body
+    deviation (exchanged_by g scope.attempt.exchange.now) body + deviation_part g scope.main.teams scope.main.rounds scope.flipping body ≡
+    deviation g body + deviation_part (exchanged_by g scope.attempt.exchange.now) scope.main.teams scope.main.rounds scope.flipping body
 body_balances g scope is =
     deviation_balance g (exchanged_by g scope.attempt.exchange.now) is.can_be_made.round_robin (round_robin_after g scope is)
-    scope.main.teams scope.main.rounds scope.turning (around g scope is) (sides g scope is)
+    scope.main.teams scope.main.rounds scope.flipping (around g scope is) (sides g scope is)
 
 -- a count that is taken or not
 counted_balances : (taken : Bool) (new old before after : ℕ) → new + before ≡ old + after →
@@ -89,8 +89,8 @@ soft_even (Soft weight) new before old after balance =
 
 rule_balances : (penalty : Weight → ℕ → ℕ) → IsEven penalty → (g : Games) (scope : Scope) → IsScope g scope → (rule : Option Rule) →
     ((r : Rule) → rule ≡ Some r → IsBodyFor g.teams r.body) →
-    penalty_of penalty (exchanged_by g scope.attempt.exchange.now) rule + rule_part penalty scope.main scope.turning g rule ≡
-    penalty_of penalty g rule + rule_part penalty scope.main scope.turning (exchanged_by g scope.attempt.exchange.now) rule
+    penalty_of penalty (exchanged_by g scope.attempt.exchange.now) rule + rule_part penalty scope.main scope.flipping g rule ≡
+    penalty_of penalty g rule + rule_part penalty scope.main scope.flipping (exchanged_by g scope.attempt.exchange.now) rule
 rule_balances penalty even g scope is None for = refl
 rule_balances penalty even g scope is (Some rule) for =
     even rule.weight _ _ _ _ (body_balances g scope is rule.body (for rule refl))
@@ -106,8 +106,8 @@ rule_for l g i is same rule at =
 
 rules_balance : (penalty : Weight → ℕ → ℕ) → IsEven penalty → (l : LeagueData) (g : Games) (scope : Scope) →
     IsLeague l → teams l ≡ g.teams → IsScope g scope →
-    sum_over_rules penalty l.rules (exchanged_by g scope.attempt.exchange.now) + rules_part penalty l.rules scope.main scope.turning g ≡
-    sum_over_rules penalty l.rules g + rules_part penalty l.rules scope.main scope.turning (exchanged_by g scope.attempt.exchange.now)
+    sum_over_rules penalty l.rules (exchanged_by g scope.attempt.exchange.now) + rules_part penalty l.rules scope.main scope.flipping g ≡
+    sum_over_rules penalty l.rules g + rules_part penalty l.rules scope.main scope.flipping (exchanged_by g scope.attempt.exchange.now)
 unfolding sum_over_rules rules_part
 rules_balance penalty even l g scope is same are =
     sum_below_balance (length l.rules) _ _ _ _

@@ -117,7 +117,7 @@ impl KeptDeviations {
         requires body { IsBodyFor schedule.now.teams rule.now.body }
         requires index { i < length self.old.kept }
         requires kept { self.old.is_known ≡ true → slice_index self.old.kept i ≡ deviation schedule.now rule.now.body }
-        ensures value { result ≡ deviation_part schedule.now scope.now.main.teams scope.now.main.rounds scope.now.turning rule.now.body }
+        ensures value { result ≡ deviation_part schedule.now scope.now.main.teams scope.now.main.rounds scope.now.flipping rule.now.body }
         ensures below { result < deviation_limit }
         ensures same { IsKeptOf self.new self.old }
         ensures next { self.new.next ≡ self.old.next }
@@ -126,7 +126,7 @@ impl KeptDeviations {
         if let Some(part) = self.known_part(rule, i, scope) {
             return part;
         }
-        deviation_part(schedule, rule, scope.main, scope.turning, &mut self.counts)
+        deviation_part(schedule, rule, scope.main, scope.flipping, &mut self.counts)
     }
 
     /// That part, if the deviations are known and the rule isn't broken, or the exchange can alter all of its deviation or nothing.
@@ -135,7 +135,7 @@ impl KeptDeviations {
         ensures some { is_some result ≡
             (self.now.is_known && (slice_index self.now.kept i == 0 || is_all_or_none rule.now.body)) }
         ensures value { (g : Games) → (self.now.is_known ≡ true → slice_index self.now.kept i ≡ deviation g rule.now.body) →
-            IfSome result (λ part. part ≡ deviation_part g scope.now.main.teams scope.now.main.rounds scope.now.turning rule.now.body) }
+            IfSome result (λ part. part ≡ deviation_part g scope.now.main.teams scope.now.main.rounds scope.now.flipping rule.now.body) }
     {
         if !self.is_known {
             return None;
@@ -144,7 +144,7 @@ impl KeptDeviations {
         if known == 0 {
             return Some(0);
         }
-        part_of_known(rule, scope.main, scope.turning, known)
+        part_of_known(rule, scope.main, scope.flipping, known)
     }
 
     /// Keeps the deviations after the exchange of the rules that it can alter, of so many rules.

@@ -46,8 +46,8 @@ pub(crate) fn parts_of_rules(
     requires same_size { teams league.now ≡ schedule.now.teams }
     requires rules { KnowsRules league.now scope.now }
     requires deviations { AreKeptDeviations league.now.rules schedule.now deviations.old }
-    ensures hard { result.hard ≡ rules_part hard_penalty league.now.rules scope.now.main scope.now.turning schedule.now }
-    ensures soft { result.soft ≡ rules_part soft_penalty league.now.rules scope.now.main scope.now.turning schedule.now }
+    ensures hard { result.hard ≡ rules_part hard_penalty league.now.rules scope.now.main scope.now.flipping schedule.now }
+    ensures soft { result.soft ≡ rules_part soft_penalty league.now.rules scope.now.main scope.now.flipping schedule.now }
     ensures hard_most { result.hard ≤ max_rules * deviation_limit }
     ensures soft_most { result.soft ≤ max_rules * (max_weight * deviation_limit) }
     ensures deviations { AreKeptDeviations league.now.rules schedule.now deviations.new }
@@ -99,7 +99,7 @@ pub(crate) fn with_rules(
         }
         let rule = league.rule(i);
         let counts = &mut deviations.counts;
-        let part = deviation_part(schedule, rule, scope.main, scope.turning, counts);
+        let part = deviation_part(schedule, rule, scope.main, scope.flipping, counts);
         deviations.next[i] = deviations.rest(i).saturating_add(part as u32);
         let added = Penalties::of_rule(rule.weight, part);
         cost.hard += added.hard;

@@ -18,7 +18,7 @@ pub(crate) struct Scope<'a> {
     /// The main teams of the exchange, and the rounds in which they get other games.
     pub(crate) main: Touched,
     /// The teams whose sides change.
-    pub(crate) turning: TeamSet,
+    pub(crate) flipping: TeamSet,
     /// The rules whose deviation can change.
     pub(crate) rules: RuleSet,
     /// Those of them that are counted first, and those that are counted last.
@@ -39,7 +39,7 @@ impl<'a> Scope<'a> {
         Scope {
             attempt: *attempt,
             main,
-            turning: attempt.exchange.turning(schedule),
+            flipping: attempt.exchange.flipping(schedule),
             rules,
             first: rules.intersection(evaluator.order.first),
             last: rules.intersection(evaluator.order.last),

@@ -12,7 +12,7 @@ use fixtures::Schedule;
 use std::marker::Model;
 
 /// The numbers of home games up to each round on the schedule that FA2 was counted on last, kept so that only those of teams that have
-/// turned are counted on the next one. Whatever is kept, a deviation is the same.
+/// flipped are counted on the next one. Whatever is kept, a deviation is the same.
 #[derive(Drop)]
 pub struct HomeCounts {
     table: HomeTable,

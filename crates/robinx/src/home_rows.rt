@@ -22,8 +22,8 @@ pub(crate) const TEAMS: usize = MAX_TEAMS as usize;
 /// A number for each round.
 pub(crate) type Row = [u8; ROW];
 
-/// 0 as long as a row is, and then 1 as long. A window on it, as long as a row, is 0 before a round and 1 from it on: so a row turns in a
-/// loop over all its rounds, of which the machine takes many at once.
+/// 0 as long as a row is, and then 1 as long. A window on it, as long as a row, is 0 before a round and 1 from it on: so a row is flipped
+/// in a loop over all its rounds, of which the machine takes many at once.
 type Step = [u8; 2 * ROW];
 
 fn step() -> Step
@@ -52,7 +52,7 @@ pub(crate) fn mask_of(slots: SlotSet, rounds: u8) -> Row
 }
 
 /// Makes the row, which is of home rounds that differ from these in the changed ones, one of these.
-pub(crate) fn turn(row: &mut Row, changed: SlotSet, homes: SlotSet)
+pub(crate) fn flip(row: &mut Row, changed: SlotSet, homes: SlotSet)
     requires changed { IsBelow max_rounds changed }
     requires row { IsHomeRow (is_home_with homes changed) row.old }
     ensures { IsHomeRow (has homes) row.new }

@@ -11,7 +11,7 @@ ghost use Rattle.robinx.specs.within.HomeTables.{AreRowsOf, IsHomeTable, over_of
 ghost use Rattle.robinx.specs.within.Walked.{row_length, row_of, worst_apart};
 
 use crate::fairness_rules::Fairness;
-use crate::home_rows::{ROW, Row, TEAMS, lower, mask_of, raise, turn, worst_apart};
+use crate::home_rows::{ROW, Row, TEAMS, flip, lower, mask_of, raise, worst_apart};
 use fixtures::Schedule;
 use league::{SlotSet, TeamSet};
 
@@ -63,7 +63,7 @@ impl HomeTable {
             let place = usize::from(team);
             let homes = schedule.home_rounds(team);
             let changed = self.homes[place].symmetric_difference(homes);
-            turn(&mut self.rows[place], changed, homes);
+            flip(&mut self.rows[place], changed, homes);
             self.homes[place] = homes;
         }
     }

@@ -59,15 +59,15 @@ pub fn part_of_known(rule: &Rule, main: Touched, sides: TeamSet, known: u64) -> 
         (λ part. part ≡ deviation_part g main.teams main.rounds sides rule.now.body) }
 {
     match &rule.body {
-        RuleBody::Br2 { teams, .. } => Some(if_turned(rule, *teams, main, sides, known)),
-        RuleBody::Fa2 { teams, .. } => Some(if_turned(rule, *teams, main, sides, known)),
+        RuleBody::Br2 { teams, .. } => Some(if_flipped(rule, *teams, main, sides, known)),
+        RuleBody::Fa2 { teams, .. } => Some(if_flipped(rule, *teams, main, sides, known)),
         _ => None,
     }
 }
 
 /// All of it if one of the teams may change its sides and the change can alter what the rule looks at, otherwise none.
 #[tactic(auto, unfolding(crate::specs::Touches::has_touched_team))]
-fn if_turned(rule: &Rule, teams: TeamSet, main: Touched, sides: TeamSet, known: u64) -> u64
+fn if_flipped(rule: &Rule, teams: TeamSet, main: Touched, sides: TeamSet, known: u64) -> u64
     ensures { result ≡
         (if has_touched_team teams (has sides) && can_alter rule.now.body (has main.rounds) then known else 0) }
 {

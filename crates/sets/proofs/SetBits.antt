@@ -137,21 +137,21 @@ pub has_like_next : (w : Width) (set m k : ℕ) → IsBelow (bits w) set → m �
 has_like_next w set m k below fits =
     let mask_below : IsBelow (bits w) (all_numbers m / 2 ^ 1) =
     IsBelow_shifted (bits w) (all_numbers m) 1 (IsBelow_more m (bits w) (all_numbers m) fits (IsBelow_all_numbers m)) in
-    let turns_below : IsBelow (bits w) (bit_xor set (set / 2 ^ 1)) =
+    let flips_below : IsBelow (bits w) (bit_xor set (set / 2 ^ 1)) =
     IsBelow_toggled (bits w) set (set / 2 ^ 1) below (IsBelow_shifted (bits w) set 1 below) in
     rw (
-      has_difference w (all_numbers m / 2 ^ 1) (bit_xor set (set / 2 ^ 1)) k mask_below turns_below,
+      has_difference w (all_numbers m / 2 ^ 1) (bit_xor set (set / 2 ^ 1)) k mask_below flips_below,
       has_shifted (all_numbers m) 1 k,
       has_all_numbers m (k + 1),
       has_toggled set (set / 2 ^ 1) k,
       has_shifted set 1 k,
-    ) (ap (λ b. nat_lt (k + 1) m && b) (no_turn (has set k) (has set (k + 1))))
+    ) (ap (λ b. nat_lt (k + 1) m && b) (no_flip (has set k) (has set (k + 1))))
   where
-    no_turn : (a b : Bool) → not (if b then not a else a) ≡ beq a b
-    no_turn true true = refl
-    no_turn true false = refl
-    no_turn false true = refl
-    no_turn false false = refl
+    no_flip : (a b : Bool) → not (if b then not a else a) ≡ beq a b
+    no_flip true true = refl
+    no_flip true false = refl
+    no_flip false true = refl
+    no_flip false false = refl
 
 pub IsBelow_like_next : (a m : ℕ) → IsBelow (m - 1) (bit_and (all_numbers m / 2 ^ 1) a)
 IsBelow_like_next a m =
@@ -175,13 +175,13 @@ has_with_next w set m k fits lt =
       has_next set k,
       has_all_numbers m k,
     )
-    (and_turned (has set k || (not (k == 0) && has set (k - 1))) (nat_lt k m))
+    (and_swapped (has set k || (not (k == 0) && has set (k - 1))) (nat_lt k m))
   where
-    and_turned : (a b : Bool) → (a && b) ≡ (b && a)
-    and_turned true true = refl
-    and_turned true false = refl
-    and_turned false true = refl
-    and_turned false false = refl
+    and_swapped : (a b : Bool) → (a && b) ≡ (b && a)
+    and_swapped true true = refl
+    and_swapped true false = refl
+    and_swapped false true = refl
+    and_swapped false false = refl
 
 pub IsBelow_with_next : (w a m : ℕ) → m < w → IsBelow m (bit_and a (1 * 2 ^ m % 2 ^ w - 1))
 IsBelow_with_next w a m lt =

@@ -114,7 +114,7 @@ pub ruleset teams_of_either = (has_union, IsBelow_union, IsBelow_teams_union)
 
 pub ruleset slots_of_either = (has_union, IsBelow_union, IsBelow_slots_union)
 
-pub ruleset slots_turned = (has_toggled, IsBelow_toggled, IsBelow_slots_toggled)
+pub ruleset slots_flipped = (has_toggled, IsBelow_toggled, IsBelow_slots_toggled)
 
 pub ruleset slots_like_next = (slots_as_next, IsBelow_slots_as_next, IsBelow_max_slots_as_next)
 

@@ -135,7 +135,7 @@ impl SlotSet {
     }
 
     /// The set with each slot of the other added if it lacks it, and taken out if it has it.
-    #[tactic(auto, using(crate::proofs::SetWords::slots_turned))]
+    #[tactic(auto, using(crate::proofs::SetWords::slots_flipped))]
     pub fn symmetric_difference(self, slots: SlotSet) -> Self
         ensures members { (s : ℕ) → has result s ≡ (if has slots s then not (has self s) else has self s) }
         ensures below { (m : ℕ) → IsBelow m self → IsBelow m slots → IsBelow m result }

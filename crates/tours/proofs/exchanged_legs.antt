@@ -2,7 +2,7 @@
 pub mod ExchangedTours
 pub mod RoundsDelta
 pub mod TeamsDelta
-pub mod TurnedLegs
+pub mod FlippedLegs
 pub mod EdgeLegs
 pub mod OwnLegs
 pub mod VisitsDelta

@@ -1,5 +1,5 @@
--- Who meets whom: opponents, pairs counted at their higher team, and what a turn of sides leaves.
-pub mod Turned
+-- Who meets whom: sums over partners, opponents, and pairs counted at their higher team.
+pub mod Partners
 pub mod Opponents
 pub mod HigherTeams
 pub mod Members

@@ -7,7 +7,7 @@ ghost use Rattle.league.specs.Sets.{has};
 ghost use Rattle.fixtures.specs.Games.{round_count, round_of, IsDoubleRoundRobin};
 ghost use Rattle.fixtures.specs.Edits.{rounds_exchanged, teams_exchanged};
 ghost use Rattle.fixtures.specs.Closed.{IsClosed, plays_in, shares_opponent};
-ghost use Rattle.fixtures.specs.Changes.{turns};
+ghost use Rattle.fixtures.specs.Changes.{flips};
 ghost use Rattle.tours.specs.Runs.{runs_of, runs_over};
 
 use crate::clip::teams_in;
@@ -41,7 +41,7 @@ pub(crate) fn runs_of_rounds(
     let mut before = 0;
     let mut after = 0;
     for team in teams {
-        let runs = turned_runs(schedule, at_most, k, l, team);
+        let runs = flipped_runs(schedule, at_most, k, l, team);
         before += runs.before;
         after += runs.after;
     }
@@ -49,7 +49,7 @@ pub(crate) fn runs_of_rounds(
 }
 
 /// The runs of a team, if it is on different sides in the two rounds.
-fn turned_runs(schedule: &Schedule, at_most: u8, k: u8, l: u8, team: u8) -> CountDelta
+fn flipped_runs(schedule: &Schedule, at_most: u8, k: u8, l: u8, team: u8) -> CountDelta
     requires round_robin { IsDoubleRoundRobin schedule.now }
     requires least { 1 ≤ at_most }
     requires limit { at_most ≤ max_rounds }
@@ -57,8 +57,8 @@ fn turned_runs(schedule: &Schedule, at_most: u8, k: u8, l: u8, team: u8) -> Coun
     requires l { l < round_count schedule.now.teams }
     requires distinct { k ≢ l }
     requires team { team < schedule.now.teams }
-    ensures before { result.before ≡ (if turns schedule.now k l team then runs_of schedule.now at_most team else 0) }
-    ensures after { result.after ≡ (if turns schedule.now k l team
+    ensures before { result.before ≡ (if flips schedule.now k l team then runs_of schedule.now at_most team else 0) }
+    ensures after { result.after ≡ (if flips schedule.now k l team
         then runs_of (rounds_exchanged schedule.now k l (λ _. true)) at_most team else 0) }
     ensures before_limit { result.before ≤ max_rounds }
     ensures after_limit { result.after ≤ max_rounds }
@@ -72,10 +72,10 @@ fn turned_runs(schedule: &Schedule, at_most: u8, k: u8, l: u8, team: u8) -> Coun
             after: 0,
         };
     }
-    let turned = home.symmetric_difference(SlotSet::empty().with(k).with(l));
+    let flipped = home.symmetric_difference(SlotSet::empty().with(k).with(l));
     CountDelta {
         before: runs_in(home, rounds, at_most),
-        after: runs_in(turned, rounds, at_most),
+        after: runs_in(flipped, rounds, at_most),
     }
 }
 
@@ -106,9 +106,9 @@ pub(crate) fn runs_of_teams(
     let rounds = schedule.rounds();
     let of_i = schedule.home_rounds(i);
     let of_j = schedule.home_rounds(j);
-    let turned = of_i.symmetric_difference(of_j).intersection(among);
-    let new_i = of_i.symmetric_difference(turned);
-    let new_j = of_j.symmetric_difference(turned);
+    let flipped = of_i.symmetric_difference(of_j).intersection(among);
+    let new_i = of_i.symmetric_difference(flipped);
+    let new_j = of_j.symmetric_difference(flipped);
     CountDelta {
         before: runs_in(of_j, rounds, at_most) + runs_in(of_i, rounds, at_most),
         after: runs_in(new_j, rounds, at_most) + runs_in(new_i, rounds, at_most),

@@ -10,7 +10,7 @@ use Rattle.league.specs.declared.rule.Weight.{Weight}
 use Rattle.fixtures.specs.Games.{Games}
 use Rattle.fixtures.specs.TouchedCells.{TouchedCells}
 use Rattle.fixtures.specs.declared.exchanges.Exchange.{Exchange}
-use Rattle.fixtures.specs.Exchanges.{exchanged_by, IsExchange, main_cells, turning_team}
+use Rattle.fixtures.specs.Exchanges.{exchanged_by, IsExchange, main_cells, flipping_team}
 use Rattle.tours.specs.Tours.{travel}
 use Rattle.tours.specs.Runs.{runs_over}
 use Rattle.tours.specs.Repeats.{repeats}
@@ -27,11 +27,11 @@ use Rattle.costs.specs.declared.scope.Scope.{Scope}
 pub record IsScope (g : Games) (scope : Scope) : Type 0 where
   pub can_be_made : IsExchange g scope.attempt.exchange.now
   pub main : scope.main ≡ main_cells scope.attempt.exchange.now
-  pub turning : (t : ℕ) → has scope.turning t ≡ turning_team g scope.attempt.exchange.now t
+  pub flipping : (t : ℕ) → has scope.flipping t ≡ flipping_team g scope.attempt.exchange.now t
 
 -- what the scope says of the league's rules: those that the exchange can alter, of which some are counted first and the others last
 pub record KnowsRules (l : LeagueData) (scope : Scope) : Type 0 where
-  pub sides : SidesAreMain scope.main.teams scope.turning
+  pub sides : SidesAreMain scope.main.teams scope.flipping
   pub below : IsBelow (length l.rules) scope.rules
   pub rules : (i : ℕ) → has scope.rules i ≡ is_alterable_at l.rules scope.main.teams scope.main.rounds i
   pub first_below : IsBelow (length l.rules) scope.first
@@ -56,16 +56,16 @@ rules_part penalty rules main sides g =
 -- the sums over the rules of a set
 abbrev pub parts_of : LeagueData → Scope → ℕ → Games → Penalties
 parts_of l scope set g = record {
-  hard = sum_where (length l.rules) (has set) (λ i. rule_part hard_penalty scope.main scope.turning g (slice_get l.rules i));
-  soft = sum_where (length l.rules) (has set) (λ i. rule_part soft_penalty scope.main scope.turning g (slice_get l.rules i));
+  hard = sum_where (length l.rules) (has set) (λ i. rule_part hard_penalty scope.main scope.flipping g (slice_get l.rules i));
+  soft = sum_where (length l.rules) (has set) (λ i. rule_part soft_penalty scope.main scope.flipping g (slice_get l.rules i));
 }
 
 -- of all costs but travel, runs and repeats: of the rules, and in a phased league of the pairs with both games in one half
 abbrev pub penalties_part : LeagueData → Scope → Games → Penalties
 penalties_part l scope g = record {
   hard =
-      where_phased l (unphased_part g (has scope.main.teams)) + rules_part hard_penalty l.rules scope.main scope.turning g;
-  soft = rules_part soft_penalty l.rules scope.main scope.turning g;
+      where_phased l (unphased_part g (has scope.main.teams)) + rules_part hard_penalty l.rules scope.main scope.flipping g;
+  soft = rules_part soft_penalty l.rules scope.main scope.flipping g;
 }
 
 -- a cost with penalties that it lacks

@@ -30,7 +30,7 @@ rest_at kept next i = if slice_index kept i == 0 then 0 else slice_index next i
 -- a test, otherwise all of it.
 abbrev pub AreRests : List Rule → Scope → (ℕ → Bool) → Games → List ℕ → List ℕ → Type 0
 AreRests rules scope without g kept next = (i : ℕ) (rule : Rule) → slice_get rules i ≡ Some rule → has scope.rules i ≡ true →
-    (if without i then rest_at kept next i + deviation_part g scope.main.teams scope.main.rounds scope.turning rule.body
+    (if without i then rest_at kept next i + deviation_part g scope.main.teams scope.main.rounds scope.flipping rule.body
     else slice_index next i) ≡
     deviation g rule.body
 

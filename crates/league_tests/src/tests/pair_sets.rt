@@ -4,7 +4,7 @@ use crate::tests::checks::check_same;
 use league::PairSet;
 use std::process::Abort;
 
-/// Pairs of teams that are added in this order. One is added twice, and one is another one turned.
+/// Pairs of teams that are added in this order. One is added twice, and one is another one swapped.
 const ADDED: &[(u8, u8)] = &[(0, 39), (39, 0), (39, 38), (0, 1), (0, 39)];
 
 fn added(rt: &impl Abort) -> PairSet {

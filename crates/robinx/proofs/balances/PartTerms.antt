@@ -97,10 +97,10 @@ module _ (g : Games) (main rounds sides teams : ℕ) (side : Side) (opponents sl
 
 -- the teams of which other games may count
 
-pub otherwise_turned : (g : Games) (main rounds sides opponents teams t : ℕ) → (opponents == all_numbers g.teams) ≡ true →
+pub otherwise_flipped : (g : Games) (main rounds sides opponents teams t : ℕ) → (opponents == all_numbers g.teams) ≡ true →
     (has teams t && has sides t) ≡ (has teams t && counts_otherwise g main rounds sides opponents t)
 unfolding counts_otherwise
-otherwise_turned g main rounds sides opponents teams t all =
+otherwise_flipped g main rounds sides opponents teams t all =
     ap (λ b. has teams t && b) (sym (cond-true (opponents == all_numbers g.teams) _ (meets_otherwise g main rounds opponents t) all))
 
 pub otherwise_met : (g : Games) (main rounds sides opponents teams t : ℕ) → (opponents == all_numbers g.teams) ≡ false →

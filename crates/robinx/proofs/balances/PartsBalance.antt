@@ -35,44 +35,44 @@ use Rattle.robinx.proofs.unaltered.Untouched.{other_fails, game_stays}
 use Rattle.robinx.proofs.unaltered.ToldApart.{SeesSame-outside, stays_inside, unaltered_deviation}
 
 module _ (g g' : Games) (size : g'.teams ≡ g.teams) (sides rounds : ℕ)
-    (turned : DiffersOnlyAt is_home g g' (box (has sides) (has rounds))) where
+    (flipped : DiffersOnlyAt is_home g g' (box (has sides) (has rounds))) where
   -- a team that isn't a side team keeps its sides
   home_kept : (t r : ℕ) → t < g.teams → r < round_count g.teams → has sides t ≡ false → (cell g' t r).home ≡ (cell g t r).home
   unfolding is_home
-  home_kept t r in_t in_r other = turned.same t r in_t in_r (ap (λ (b : Bool). b && has rounds r) other)
+  home_kept t r in_t in_r other = flipped.same t r in_t in_r (ap (λ (b : Bool). b && has rounds r) other)
 
-  SeesSame-unturned : (slots : ℕ → Bool) → SeesSame g g' (λ t. not (has sides t)) slots (λ _. true)
-  SeesSame-unturned slots = record {
+  SeesSame-unflipped : (slots : ℕ → Bool) → SeesSame g g' (λ t. not (has sides t)) slots (λ _. true)
+  SeesSame-unflipped slots = record {
     same_size = size;
     side = λ t r in_t in_r team slot. home_kept t r in_t in_r (not-true _ team);
     opponent = λ t r in_t in_r team slot. refl;
   }
 
-  SeesSameBreaks-unturned : (teams slots : ℕ → Bool) → ((t : ℕ) → t < g.teams → teams t ≡ true → has sides t ≡ false) →
+  SeesSameBreaks-unflipped : (teams slots : ℕ → Bool) → ((t : ℕ) → t < g.teams → teams t ≡ true → has sides t ≡ false) →
       SeesSameBreaks g g' teams slots
-  SeesSameBreaks-unturned teams slots others = record {
+  SeesSameBreaks-unflipped teams slots others = record {
     same_size = size;
     side = λ t r in_t in_r team slot. home_kept t r in_t in_r (others t in_t team);
     before = λ t r in_t in_r team slot. home_kept t (r - 1) in_t (omega arith) (others t in_t team);
   }
 
-  SeesSameUntil-unturned : (teams slots : ℕ → Bool) → ((t : ℕ) → t < g.teams → teams t ≡ true → has sides t ≡ false) →
+  SeesSameUntil-unflipped : (teams slots : ℕ → Bool) → ((t : ℕ) → t < g.teams → teams t ≡ true → has sides t ≡ false) →
       SeesSameUntil g g' teams slots
   unfolding is_home
-  SeesSameUntil-unturned teams slots others = record {
+  SeesSameUntil-unflipped teams slots others = record {
     same_size = size;
     side = λ t r k in_t in_r team slot until. home_kept t k in_t (omega arith) (others t in_t team);
   }
 
-  none_turns : (teams : ℕ) → g.teams ≤ max_teams → has_touched_team teams (has sides) ≡ false → (t : ℕ) → t < g.teams → has teams t ≡ true →
+  none_flips : (teams : ℕ) → g.teams ≤ max_teams → has_touched_team teams (has sides) ≡ false → (t : ℕ) → t < g.teams → has teams t ≡ true →
       has sides t ≡ false
   unfolding has_touched_team
-  none_turns teams forty none t in_t team =
+  none_flips teams forty none t in_t team =
       other_fails (has teams t) (has sides t) (any_below_fails max_teams (λ t. has teams t && has sides t) none t (omega arith)) team
 
 module _ (g g' : Games) (rr : IsDoubleRoundRobin g) (rr' : IsDoubleRoundRobin g') (main rounds sides : ℕ)
     (differs : DiffersOnlyAround g g' (has main) (has rounds))
-    (turned : DiffersOnlyAt is_home g g' (box (has sides) (has rounds))) where
+    (flipped : DiffersOnlyAt is_home g g' (box (has sides) (has rounds))) where
   outside : DiffersOnlyIn g g' (λ _. true) (has rounds)
   outside = record { same_size = differs.same_size; same_cells = differs.same_cells }
 
@@ -168,7 +168,7 @@ module _ (g g' : Games) (rr : IsDoubleRoundRobin g) (rr' : IsDoubleRoundRobin g'
       counts_otherwise g main rounds sides opponents t ≡ false → (cell g' t r).home ≡ (cell g t r).home
   unfolding counts_otherwise meets_otherwise is_home
   side_kept opponents t r in_t in_r out = elim (cases_eq opponents (all_numbers g.teams)) [
-    | inl all ↦ home_kept g g' differs.same_size sides rounds turned t r in_t in_r
+    | inl all ↦ home_kept g g' differs.same_size sides rounds flipped t r in_t in_r
         (sym (cond-true (opponents == all_numbers g.teams) _ (meets_otherwise g main rounds opponents t) (eq-eqb _ _ all)) ∙ out)
     | inr some ↦
         let met = sym (cond-false (opponents == all_numbers g.teams) (has sides t) _ (ne_eqb _ _ some)) ∙ out in
@@ -269,7 +269,7 @@ module _ (g g' : Games) (rr : IsDoubleRoundRobin g) (rr' : IsDoubleRoundRobin g'
       differs.same_size (λ t in_t. refl)
       (λ t in_t team out. ap (λ (count : ℕ). over count most)
       (games_of_team-same g g' (λ t. not (has sides t)) (has slots) (λ _. true)
-      (SeesSame-unturned g g' differs.same_size sides rounds turned (has slots)) side t in_t (not_from_false _ out)))
+      (SeesSame-unflipped g g' differs.same_size sides rounds flipped (has slots)) side t in_t (not_from_false _ out)))
   terms_balance (Ca2 teams1 side teams2 slots most) is =
       whole_terms_balance g.teams g'.teams (has teams1) (counts_otherwise g main rounds sides teams2)
       (counts_otherwise g' main rounds sides teams2)
@@ -321,19 +321,19 @@ module _ (g g' : Games) (rr : IsDoubleRoundRobin g) (rr' : IsDoubleRoundRobin g'
       (λ t. over (breaks g' t (has slots) side) most) (λ t. over (breaks g t (has slots) side) most) differs.same_size (λ t in_t. refl)
       (λ t in_t team out. ap (λ (count : ℕ). over count most)
       (breaks-same g g' (λ t. not (has sides t)) (has slots)
-      (SeesSameBreaks-unturned g g' differs.same_size sides rounds turned (λ t. not (has sides t)) (has slots) (λ t in_t is. not-true _ is))
+      (SeesSameBreaks-unflipped g g' differs.same_size sides rounds flipped (λ t. not (has sides t)) (has slots) (λ t in_t is. not-true _ is))
       side t in_t (not_from_false _ out)))
   terms_balance (Br2 teams slots most) is =
       whole_balance (has_touched_team teams (has sides)) (has_touched_team teams (has sides)) _ _ refl
       (λ none. breaks_of_all-same g g' (has teams) (has slots)
-      (SeesSameBreaks-unturned g g' differs.same_size sides rounds turned (has teams) (has slots)
-      (none_turns g g' differs.same_size sides rounds turned teams rr.most none)) Any most)
+      (SeesSameBreaks-unflipped g g' differs.same_size sides rounds flipped (has teams) (has slots)
+      (none_flips g g' differs.same_size sides rounds flipped teams rr.most none)) Any most)
   terms_balance (Se1 teams least) is = short_pairs_balance g g' rr rr' main rounds differs teams least
   terms_balance (Fa2 teams slots most) is =
       whole_balance (has_touched_team teams (has sides)) (has_touched_team teams (has sides)) _ _ refl
       (λ none. gaps-same g g' (has teams) (has slots)
-      (SeesSameUntil-unturned g g' differs.same_size sides rounds turned (has teams) (has slots)
-      (none_turns g g' differs.same_size sides rounds turned teams rr.most none)) most)
+      (SeesSameUntil-unflipped g g' differs.same_size sides rounds flipped (has teams) (has slots)
+      (none_flips g g' differs.same_size sides rounds flipped teams rr.most none)) most)
 
   pub deviation_balance : (body : RuleBody) → IsBodyFor g.teams body →
       deviation g' body + deviation_part g main rounds sides body ≡ deviation g body + deviation_part g' main rounds sides body

@@ -1,4 +1,4 @@
--- Rows of home games, a number for each round: how one turns, and by how much two of them are apart.
+-- Rows of home games, a number for each round: how one is flipped, and by how much two of them are apart.
 use Rattle.std.proofs.Common.{◌≡◌, ◌≢◌, ℕ, zero, suc, ◌+◌, ◌<◌, ◌≤◌, ◌&&◌, ◌==◌, not, nat_lt, Bool, true, false, if◌then◌else◌}
 use Rattle.std.proofs.Common.{List, length, get_or, refl, sym, ◌∙◌, ap, inl, inr, arith}
 use Rattle.std.proofs.Math.ListN.{get_or-eq_default}
@@ -99,22 +99,22 @@ row_small row home is r = elim (cases_lt r row_length) [
       omega (arith, get_or-eq_default row 0 beyond)
 ]
 
--- a loop over the rounds that changed has turned those that aren't left
-pub record HasTurned (row : List ℕ) (homes left : ℕ) : Type 0 where
+-- a loop over the rounds that changed has flipped those that aren't left
+pub record HasFlipped (row : List ℕ) (homes left : ℕ) : Type 0 where
   pub below : IsBelow max_rounds left
   pub is : IsHomeRow (is_home_with homes left) row
 
-pub turned_none : (row : List ℕ) (homes changed left : ℕ) → IsBelow max_rounds changed → left ≡ changed →
-    IsHomeRow (is_home_with homes changed) row → HasTurned row homes left
-turned_none row homes changed left below whole is = rw whole (record { below = below; is = is })
+pub flipped_none : (row : List ℕ) (homes changed left : ℕ) → IsBelow max_rounds changed → left ≡ changed →
+    IsHomeRow (is_home_with homes changed) row → HasFlipped row homes left
+flipped_none row homes changed left below whole is = rw whole (record { below = below; is = is })
 
-pub turned_all : (row : List ℕ) (homes left : ℕ) → left ≡ 0 → HasTurned row homes left →
+pub flipped_all : (row : List ℕ) (homes left : ℕ) → left ≡ 0 → HasFlipped row homes left →
     IsHomeRow (has homes) row
-turned_all row homes left none so_far =
+flipped_all row homes left none so_far =
     same_home_row row (is_home_with homes left) (has homes)
     (λ r. cond-false {A = Bool} (has left r) (not (has homes r)) (has homes r) (ap (λ s. has s r) none ∙ has_empty r)) so_far.is
 
-module _ (row : List ℕ) (homes left lowest rest : ℕ) (so_far : HasTurned row homes left)
+module _ (row : List ℕ) (homes left lowest rest : ℕ) (so_far : HasFlipped row homes left)
     (taken : IsWithoutLowest left lowest rest) where
   as_before : is_home_with homes left lowest ≡ not (has homes lowest)
   as_before = cond-true {A = Bool} (has left lowest) (not (has homes lowest)) (has homes lowest) taken.in_set
@@ -129,28 +129,28 @@ module _ (row : List ℕ) (homes left lowest rest : ℕ) (so_far : HasTurned row
   below_still : IsBelow max_rounds rest
   below_still = omega (arith, so_far.below, taken.fewer)
 
-  pub turned_home : (new : List ℕ) → has homes lowest ≡ true → length new ≡ row_length →
-      ((r : ℕ) → r < row_length → get_or new r 0 ≡ get_or row r 0 + from_on lowest r) → HasTurned new homes rest
-  turned_home new home len gained = record {
+  pub flipped_home : (new : List ℕ) → has homes lowest ≡ true → length new ≡ row_length →
+      ((r : ℕ) → r < row_length → get_or new r 0 ≡ get_or row r 0 + from_on lowest r) → HasFlipped new homes rest
+  flipped_home new home len gained = record {
     below = below_still;
     is = gained_row lowest (is_home_with homes left) (is_home_with homes rest) (as_before ∙ ap not home) (as_after ∙ home)
         elsewhere row new len gained so_far.is;
   }
 
-  pub turned_away : (new : List ℕ) → has homes lowest ≡ false → length new ≡ row_length →
-      ((r : ℕ) → r < row_length → get_or new r 0 + from_on lowest r ≡ get_or row r 0) → HasTurned new homes rest
-  turned_away new away len lost = record {
+  pub flipped_away : (new : List ℕ) → has homes lowest ≡ false → length new ≡ row_length →
+      ((r : ℕ) → r < row_length → get_or new r 0 + from_on lowest r ≡ get_or row r 0) → HasFlipped new homes rest
+  flipped_away new away len lost = record {
     below = below_still;
     is = lost_row lowest (is_home_with homes rest) (is_home_with homes left) (as_after ∙ away) (as_before ∙ ap not away)
         (λ k apart. sym (elsewhere k apart)) row new len lost so_far.is;
   }
 
-  pub turned_some : has homes lowest ≡ false → (r : ℕ) → r < row_length → from_on lowest r ≤ get_or row r 0
-  turned_some away =
+  pub flipped_some : has homes lowest ≡ false → (r : ℕ) → r < row_length → from_on lowest r ≤ get_or row r 0
+  flipped_some away =
       counted_from_on lowest (is_home_with homes rest) (is_home_with homes left) (as_after ∙ away) (as_before ∙ ap not away)
       (λ k apart. sym (elsewhere k apart)) row so_far.is
 
--- the rounds in which a team was at home, by those in which it turns
+-- the rounds in which a team was at home, by those in which it flips
 pub home_before : (before homes changed : ℕ) → ((r : ℕ) → has changed r ≡ (if has homes r then not (has before r) else has before r)) →
     (r : ℕ) → has before r ≡ is_home_with homes changed r
 home_before before homes changed members r =

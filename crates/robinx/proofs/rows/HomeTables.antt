@@ -39,12 +39,12 @@ new_table empty nothing = record {
       (subst (IsHomeRow (has 0)) (sym (get_or-replicate max_teams t (replicate row_length 0) [] t_below)) zeros_row);
 }
 
--- a team's row is one that turns
-pub row_to_turn : (table : HomeTable) (team row default homes changed : ℕ) → IsHomeTable table → row ≡ team → team < max_teams →
+-- a team's row is one that can be flipped
+pub row_to_flip : (table : HomeTable) (team row default homes changed : ℕ) → IsHomeTable table → row ≡ team → team < max_teams →
     ((r : ℕ) → has changed r ≡
     (if has homes r then not (has (get_or table.homes row default) r) else has (get_or table.homes row default) r)) →
     IsHomeRow (is_home_with homes changed) (get_or table.rows row [])
-row_to_turn table team row default homes changed is here in_table members =
+row_to_flip table team row default homes changed is here in_table members =
     let old : get_or table.homes row default ≡ get_or table.homes row 0 =
     get_or_default_zero table.homes row default (omega (arith, here, in_table, is.homes_len)) in
     same_home_row (get_or table.rows row []) (has (get_or table.homes row 0)) (is_home_with homes changed)
@@ -72,10 +72,10 @@ pub followed_all : (g : Games) (table : HomeTable) (teams left : ℕ) → left �
 followed_all g table teams left none so_far =
     λ t r in_teams in_season. so_far.rows t r in_teams (ap (λ s. has s t) none ∙ has_empty t) in_season
 
--- one team's row turns
-module _ (g : Games) (table : HomeTable) (teams left team rest row homes : ℕ) (turned : List ℕ) (forty : g.teams ≤ max_teams)
+-- one team's row is flipped
+module _ (g : Games) (table : HomeTable) (teams left team rest row homes : ℕ) (flipped : List ℕ) (forty : g.teams ≤ max_teams)
     (so_far : HasFollowed g table teams left) (taken : IsWithoutLowest left team rest) (here : row ≡ team) (in_games : team < g.teams)
-    (members : (r : ℕ) → has homes r ≡ (nat_lt r (round_count g.teams) && is_home g team r)) (row_is : IsHomeRow (has homes) turned) where
+    (members : (r : ℕ) → has homes r ≡ (nat_lt r (round_count g.teams) && is_home g team r)) (row_is : IsHomeRow (has homes) flipped) where
   in_table : team < max_teams
   in_table = omega (arith, in_games, forty)
 
@@ -85,35 +85,35 @@ module _ (g : Games) (table : HomeTable) (teams left team rest row homes : ℕ) 
   home_here : get_or (set table.homes row homes) team 0 ≡ homes
   home_here = get_or-set_at table.homes row team homes 0 (sym here) (omega (arith, here, in_table, so_far.is.homes_len))
 
-  row_kept : (t : ℕ) → t ≢ team → get_or (set table.rows row turned) t [] ≡ get_or table.rows t []
-  row_kept t apart = let other : t ≢ row = omega (arith, here, apart) in get_or-set_other table.rows row t turned [] other
+  row_kept : (t : ℕ) → t ≢ team → get_or (set table.rows row flipped) t [] ≡ get_or table.rows t []
+  row_kept t apart = let other : t ≢ row = omega (arith, here, apart) in get_or-set_other table.rows row t flipped [] other
 
-  row_here : get_or (set table.rows row turned) team [] ≡ turned
-  row_here = get_or-set_at table.rows row team turned [] (sym here) (omega (arith, here, in_table, so_far.is.rows_len))
+  row_here : get_or (set table.rows row flipped) team [] ≡ flipped
+  row_here = get_or-set_at table.rows row team flipped [] (sym here) (omega (arith, here, in_table, so_far.is.rows_len))
 
-  rows_are : (t : ℕ) → t < max_teams → IsHomeRow (has (get_or (set table.homes row homes) t 0)) (get_or (set table.rows row turned) t [])
+  rows_are : (t : ℕ) → t < max_teams → IsHomeRow (has (get_or (set table.homes row homes) t 0)) (get_or (set table.rows row flipped) t [])
   rows_are t below = elim (cases_eq t team) [
     | inl same ↦
-        subst (λ (k : ℕ). IsHomeRow (has (get_or (set table.homes row homes) k 0)) (get_or (set table.rows row turned) k [])) (sym same)
-        (subst (λ (h : ℕ). IsHomeRow (has h) (get_or (set table.rows row turned) team [])) (sym home_here)
+        subst (λ (k : ℕ). IsHomeRow (has (get_or (set table.homes row homes) k 0)) (get_or (set table.rows row flipped) k [])) (sym same)
+        (subst (λ (h : ℕ). IsHomeRow (has h) (get_or (set table.rows row flipped) team [])) (sym home_here)
         (subst (IsHomeRow (has homes)) (sym row_here) row_is))
     | inr apart ↦
-        subst (λ (h : ℕ). IsHomeRow (has h) (get_or (set table.rows row turned) t [])) (sym (home_kept t apart))
+        subst (λ (h : ℕ). IsHomeRow (has h) (get_or (set table.rows row flipped) t [])) (sym (home_kept t apart))
         (subst (IsHomeRow (has (get_or table.homes t 0))) (sym (row_kept t apart)) (so_far.is.rows t below))
   ]
 
-  pub followed_more : HasFollowed g (record { homes = set table.homes row homes; rows = set table.rows row turned }) teams rest
+  pub followed_more : HasFollowed g (record { homes = set table.homes row homes; rows = set table.rows row flipped }) teams rest
   followed_more = record {
     below = omega (arith, so_far.below, taken.fewer);
     is = record {
       homes_len = length-set table.homes row homes ∙ so_far.is.homes_len;
-      rows_len = length-set table.rows row turned ∙ so_far.is.rows_len;
+      rows_len = length-set table.rows row flipped ∙ so_far.is.rows_len;
       rows = rows_are;
     };
     rows = λ t r in_teams gone in_season. elim (cases_eq t team) [
       | inl same ↦
-          ap (λ (k : ℕ). get_or (get_or (set table.rows row turned) k []) r 0) same ∙ ap (λ (l : List ℕ). get_or l r 0) row_here ∙
-          row_of_schedule g team homes turned (omega (arith, forty)) members row_is r in_season ∙ ap (λ (k : ℕ). home_games g k r) (sym same)
+          ap (λ (k : ℕ). get_or (get_or (set table.rows row flipped) k []) r 0) same ∙ ap (λ (l : List ℕ). get_or l r 0) row_here ∙
+          row_of_schedule g team homes flipped (omega (arith, forty)) members row_is r in_season ∙ ap (λ (k : ℕ). home_games g k r) (sym same)
       | inr apart ↦
           ap (λ (l : List ℕ). get_or l r 0) (row_kept t apart) ∙
           so_far.rows t r in_teams (sym (others_kept left team rest t taken apart) ∙ gone) in_season

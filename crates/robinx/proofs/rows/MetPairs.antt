@@ -133,13 +133,13 @@ met_in_more g rr team rounds left lowest rest met new in_team in_r so_far taken 
     here : (t : ℕ) → IsPair g.teams t team →
         (t == (cell g team lowest).opponent) ≡ (lowest == round_of g team t || lowest == round_of g t team)
     here t pair =
-        turned t (cell g team lowest).opponent ∙
+        swapped t (cell g team lowest).opponent ∙
         ap (λ b. b && (cell g team lowest).opponent == t) (sym (lt-ltb lowest (round_count g.teams) in_r)) ∙
         sym (met_any g rr team in_team t (pair_swapped _ _ _ pair) lowest) ∙
         rw (or-false (lowest == round_of g team t), or-false (lowest == round_of g t team)) refl
       where
-        turned : (a b : ℕ) → (a == b) ≡ (b == a)
-        turned a b = elim (cases_eq a b) [
+        swapped : (a b : ℕ) → (a == b) ≡ (b == a)
+        swapped a b = elim (cases_eq a b) [
           | inl same ↦ rw same refl
           | inr other ↦ ne_eqb a b other ∙ sym (ne_eqb b a (λ same. other (sym same)))
         ]

@@ -176,13 +176,13 @@ module _ (g : Games) (rr : IsDoubleRoundRobin g) (main rounds sides : ℕ) where
               let fails : (has rounds r && has main (cell g game.home r).opponent) ≡ false =
               any_below_fails (round_count g.teams) (λ r. has rounds r && has main (cell g game.home r).opponent) out.1 r
               (rr.in_range game.home game.away pair) in
-              turned (has main game.home) (has main game.away) (has rounds r) out.0 (sym (ap (λ b. has rounds r && b) met) ∙ fails)
+              regrouped (has main game.home) (has main game.away) (has rounds r) out.0 (sym (ap (λ b. has rounds r && b) met) ∙ fails)
             where
-              turned : (h a r : Bool) → h ≡ false → (r && a) ≡ false → ((h || a) && r) ≡ false
-              turned true a r out fails = absurd (false≢true (sym out))
-              turned false true true out fails = fails
-              turned false true false out fails = refl
-              turned false false r out fails = refl
+              regrouped : (h a r : Bool) → h ≡ false → (r && a) ≡ false → ((h || a) && r) ≡ false
+              regrouped true a r out fails = absurd (false≢true (sym out))
+              regrouped false true true out fails = fails
+              regrouped false true false out fails = refl
+              regrouped false false r out fails = refl
 
       quiet_untouched : (body : RuleBody) → IsBodyFor g.teams body → looks_at_team body touched ≡ false → IsQuiet body
       unfolding looks_at_team

@@ -13,7 +13,7 @@ pub record IsHomeRow (home : ℕ → Bool) (row : List ℕ) : Type 0 where
   pub len : length row ≡ row_length
   pub counts : (r : ℕ) → r < row_length → slice_index row r ≡ count_where (r + 1) home
 
--- whether a team is at home in a round, if it is to be at home in a set of rounds, and some are left in which it has yet to turn
+-- whether a team is at home in a round, if it is to be at home in a set of rounds, and some are left in which it has yet to flip
 abbrev pub is_home_with : ℕ → ℕ → ℕ → Bool
 is_home_with homes left r = if has left r then not (has homes r) else has homes r
 

@@ -20,7 +20,7 @@ fn check_said(rt: &impl Abort, start: &Schedule, (mv, teams, _): Effect) -> Resu
     let exchange = exchange(start, mv);
     let (main, touched) = (exchange.main(), touched(start, mv));
     check_same(rt, &(mv, main.rounds), &(mv, touched.rounds));
-    let said = (main.teams, exchange.turning(start), touched.teams);
+    let said = (main.teams, exchange.flipping(start), touched.teams);
     let [main, sides, touched] = teams;
     let wanted = (teams_of(main), teams_of(sides), teams_of(touched));
     check_same(rt, &(mv, said), &(mv, wanted));

@@ -1,4 +1,4 @@
--- The own legs of two teams that are exchanged in the rounds of a set: they change where a team turns between home and
+-- The own legs of two teams that are exchanged in the rounds of a set: they change where a team flips between home and
 -- away, and at the edges of the set.
 use Rattle.std.proofs.Common.{◌≡◌, ℕ, zero, suc, ◌+◌, ◌-◌, ◌<◌, Bool, true, false, not, ◌&&◌, ◌||◌, inl, inr, refl, sym}
 use Rattle.std.proofs.Common.{◌∙◌, ap, ap₂, arith, add-one}
@@ -14,12 +14,12 @@ use Rattle.league.proofs.ForCallers.{sum_below_more, sum_below_same, sum_below_a
 use Rattle.fixtures.specs.Games.{Games, round_of, round_count, cell, place, is_home, IsPair, IsDoubleRoundRobin}
 use Rattle.fixtures.specs.Edits.{exchanged}
 use Rattle.fixtures.specs.within.Edits.{is_either}
-use Rattle.fixtures.specs.Changes.{turns}
+use Rattle.fixtures.specs.Changes.{flips}
 use Rattle.fixtures.proofs.ForCallers.{exchanged_first, exchanged_second}
 use Rattle.tours.specs.Tours.{leg_count, leg}
 use Rattle.tours.specs.Parts.{touches_leg}
 use Rattle.tours.specs.within.Walked.{part_of}
-use Rattle.tours.specs.within.Delta.{stop_predicted, leg_predicted, leg_turned, AreTurns}
+use Rattle.tours.specs.within.Delta.{stop_predicted, leg_predicted, leg_flipped, AreFlips}
 use Rattle.tours.proofs.stops.Stops.{tour_at_round}
 use Rattle.tours.proofs.meetings.Opponents.{opponent_in}
 use Rattle.tours.proofs.exchanged_legs.TeamsDelta.{at_round, unmoved, meets_neither, of_first, of_second}
@@ -71,28 +71,28 @@ own_legs_of g f i j rounds some beyond =
 
 -- what a leg of both adds: before and after, and to what is counted
 
-one_leg : (edge a b turn_j turn_i : Bool) (lj li tj ti xj xi : ℕ) → edge ≡ ((a || b) && not (a && b)) →
-    ((a && b) ≡ false → turn_j ≡ false) → ((a && b) ≡ false → turn_i ≡ false) →
+one_leg : (edge a b flip_j flip_i : Bool) (lj li tj ti xj xi : ℕ) → edge ≡ ((a || b) && not (a && b)) →
+    ((a && b) ≡ false → flip_j ≡ false) → ((a && b) ≡ false → flip_i ≡ false) →
     ((a && b) ≡ true → (tj ≡ xi) × (ti ≡ xj)) →
-    ((a && b) ≡ true → turn_j ≡ false → xj ≡ lj) → ((a && b) ≡ true → turn_i ≡ false → xi ≡ li) →
+    ((a && b) ≡ true → flip_j ≡ false → xj ≡ lj) → ((a && b) ≡ true → flip_i ≡ false → xi ≡ li) →
     (if a || b then tj + ti else 0) +
-    ((if edge then lj + li else 0) + ((if turn_j then lj else 0) + (if turn_i then li else 0))) ≡
+    ((if edge then lj + li else 0) + ((if flip_j then lj else 0) + (if flip_i then li else 0))) ≡
     (if a || b then lj + li else 0) +
-    ((if edge then tj + ti else 0) + ((if turn_j then xj else 0) + (if turn_i then xi else 0)))
-one_leg edge true true true true lj li tj ti xj xi is out_j out_i turned stays_j stays_i =
-    let e : (tj ≡ xi) × (ti ≡ xj) = turned refl in rw is (omega (arith, e.0, e.1))
-one_leg edge true true true false lj li tj ti xj xi is out_j out_i turned stays_j stays_i =
-    let e : (tj ≡ xi) × (ti ≡ xj) = turned refl in rw is (omega (arith, e.0, e.1, stays_i refl refl))
-one_leg edge true true false true lj li tj ti xj xi is out_j out_i turned stays_j stays_i =
-    let e : (tj ≡ xi) × (ti ≡ xj) = turned refl in rw is (omega (arith, e.0, e.1, stays_j refl refl))
-one_leg edge true true false false lj li tj ti xj xi is out_j out_i turned stays_j stays_i =
-    let e : (tj ≡ xi) × (ti ≡ xj) = turned refl in
+    ((if edge then tj + ti else 0) + ((if flip_j then xj else 0) + (if flip_i then xi else 0)))
+one_leg edge true true true true lj li tj ti xj xi is out_j out_i flipped stays_j stays_i =
+    let e : (tj ≡ xi) × (ti ≡ xj) = flipped refl in rw is (omega (arith, e.0, e.1))
+one_leg edge true true true false lj li tj ti xj xi is out_j out_i flipped stays_j stays_i =
+    let e : (tj ≡ xi) × (ti ≡ xj) = flipped refl in rw is (omega (arith, e.0, e.1, stays_i refl refl))
+one_leg edge true true false true lj li tj ti xj xi is out_j out_i flipped stays_j stays_i =
+    let e : (tj ≡ xi) × (ti ≡ xj) = flipped refl in rw is (omega (arith, e.0, e.1, stays_j refl refl))
+one_leg edge true true false false lj li tj ti xj xi is out_j out_i flipped stays_j stays_i =
+    let e : (tj ≡ xi) × (ti ≡ xj) = flipped refl in
     rw is (omega (arith, e.0, e.1, stays_j refl refl, stays_i refl refl))
-one_leg edge true false turn_j turn_i lj li tj ti xj xi is out_j out_i turned stays_j stays_i =
+one_leg edge true false flip_j flip_i lj li tj ti xj xi is out_j out_i flipped stays_j stays_i =
     rw (is, out_j refl, out_i refl) (omega arith)
-one_leg edge false true turn_j turn_i lj li tj ti xj xi is out_j out_i turned stays_j stays_i =
+one_leg edge false true flip_j flip_i lj li tj ti xj xi is out_j out_i flipped stays_j stays_i =
     rw (is, out_j refl, out_i refl) (omega arith)
-one_leg edge false false turn_j turn_i lj li tj ti xj xi is out_j out_i turned stays_j stays_i =
+one_leg edge false false flip_j flip_i lj li tj ti xj xi is out_j out_i flipped stays_j stays_i =
     rw (is, out_j refl, out_i refl) refl
 
 -- whole sums
@@ -108,8 +108,8 @@ three_sums : (n : ℕ) (a b c : ℕ → ℕ) →
 three_sums n a b c =
     sum_below_add n a (λ s. b s + c s) ∙ ap (λ x. sum_below n a + x) (sum_below_add n b c)
 
-pub same_side : (g : Games) (r s t : ℕ) → turns g r s t ≡ false → is_home g t r ≡ is_home g t s
-unfolding turns
+pub same_side : (g : Games) (r s t : ℕ) → flips g r s t ≡ false → is_home g t r ≡ is_home g t s
+unfolding flips
 same_side g r s t = by_sides (is_home g t r) (is_home g t s)
   where
     by_sides : (x y : Bool) → not (beq x y) ≡ false → x ≡ y
@@ -129,10 +129,10 @@ module _ (l : LeagueData) (diagonal : (a : ℕ) → distance l a a ≡ 0) (g : G
   same_way t o o' false true same out out' = absurd (false≢true same)
   same_way t o o' false false same out out' = ap₂ (distance l) (unmoved i j o out) (unmoved i j o' out')
 
-  not_turned : (t s : ℕ) → is_either i j t ≡ true → t < g.teams → s + 1 < round_count g.teams → rounds s ≡ true →
-      rounds (s + 1) ≡ true → is_home g t s ≡ is_home g t (s + 1) → leg_turned l g i j t (s + 1) ≡ leg l g t (s + 1)
+  not_flipped : (t s : ℕ) → is_either i j t ≡ true → t < g.teams → s + 1 < round_count g.teams → rounds s ≡ true →
+      rounds (s + 1) ≡ true → is_home g t s ≡ is_home g t (s + 1) → leg_flipped l g i j t (s + 1) ≡ leg l g t (s + 1)
   unfolding leg place is_home
-  not_turned t s of_t in_t in_r here next same =
+  not_flipped t s of_t in_t in_r here next same =
       ap₂ (λ x y. distance l (exchanged i j x) (exchanged i j y)) (tour_at_round g t s (omega arith))
       (tour_at_round g t (s + 1) in_r) ∙
       same_way t (opponent_in g s t) (opponent_in g (s + 1) t) (cell g t s).home (cell g t (s + 1)).home same
@@ -141,7 +141,7 @@ module _ (l : LeagueData) (diagonal : (a : ℕ) → distance l a a ≡ 0) (g : G
       sym (ap₂ (distance l) (tour_at_round g t s (omega arith)) (tour_at_round g t (s + 1) in_r))
 
   both_in : (t s : ℕ) → s + 1 < round_count g.teams → rounds s ≡ true → rounds (s + 1) ≡ true →
-      leg_predicted l g i j rounds t (s + 1) ≡ leg_turned l g i j (exchanged i j t) (s + 1)
+      leg_predicted l g i j rounds t (s + 1) ≡ leg_flipped l g i j (exchanged i j t) (s + 1)
   unfolding stop_predicted
   both_in t s in_r here next =
       let back : s + 1 - 1 ≡ s = omega arith in
@@ -160,76 +160,76 @@ module _ (l : LeagueData) (diagonal : (a : ℕ) → distance l a a ≡ 0) (g : G
         absurd (true≢false (sym is ∙ ap rounds last ∙ beyond))
   ]
 
-  module _ (edges inner turns_j turns_i : ℕ) (some : 0 < round_count g.teams)
+  module _ (edges inner flips_j flips_i : ℕ) (some : 0 < round_count g.teams)
       (is_inner : (s : ℕ) → has inner s ≡ (rounds s && rounds (s + 1)))
       (is_edges : (s : ℕ) → has edges s ≡ ((rounds s || rounds (s + 1)) && not (rounds s && rounds (s + 1))))
-      (are_j : AreTurns g inner j turns_j) (are_i : AreTurns g inner i turns_i) where
+      (are_j : AreFlips g inner j flips_j) (are_i : AreFlips g inner i flips_i) where
     abbrev now : ℕ → ℕ → ℕ
     now = leg l g
 
     abbrev delta : ℕ → ℕ → ℕ
     delta = leg_predicted l g i j rounds
 
-    abbrev turned : ℕ → ℕ → ℕ
-    turned = leg_turned l g i j
+    abbrev flipped : ℕ → ℕ → ℕ
+    flipped = leg_flipped l g i j
 
-    stays : (t s turns_t : ℕ) → AreTurns g inner t turns_t → is_either i j t ≡ true → t < g.teams →
-        s < round_count g.teams → (rounds s && rounds (s + 1)) ≡ true → has turns_t s ≡ false →
-        turned t (s + 1) ≡ now t (s + 1)
-    stays t s turns_t are of_t in_t in_s both out =
+    stays : (t s flips_t : ℕ) → AreFlips g inner t flips_t → is_either i j t ≡ true → t < g.teams →
+        s < round_count g.teams → (rounds s && rounds (s + 1)) ≡ true → has flips_t s ≡ false →
+        flipped t (s + 1) ≡ now t (s + 1)
+    stays t s flips_t are of_t in_t in_s both out =
         let parts = and_parts (rounds s) (rounds (s + 1)) both in
         let next : s + 1 < round_count g.teams = next_in s in_s parts.1 in
-        not_turned t s of_t in_t next parts.0 parts.1
-        (same_side g s (s + 1) t (sym (are.turning s next (is_inner s ∙ both)) ∙ out))
+        not_flipped t s of_t in_t next parts.0 parts.1
+        (same_side g s (s + 1) t (sym (are.flipping s next (is_inner s ∙ both)) ∙ out))
 
     each : (s : ℕ) → s < round_count g.teams →
         (if rounds s || rounds (s + 1) then delta j (s + 1) + delta i (s + 1) else 0) +
         ((if has edges s then now j (s + 1) + now i (s + 1) else 0) +
-        ((if has turns_j s then now j (s + 1) else 0) + (if has turns_i s then now i (s + 1) else 0))) ≡
+        ((if has flips_j s then now j (s + 1) else 0) + (if has flips_i s then now i (s + 1) else 0))) ≡
         (if rounds s || rounds (s + 1) then now j (s + 1) + now i (s + 1) else 0) +
         ((if has edges s then delta j (s + 1) + delta i (s + 1) else 0) +
-        ((if has turns_j s then turned j (s + 1) else 0) + (if has turns_i s then turned i (s + 1) else 0)))
+        ((if has flips_j s then flipped j (s + 1) else 0) + (if has flips_i s then flipped i (s + 1) else 0)))
     each s in_s =
-        one_leg (has edges s) (rounds s) (rounds (s + 1)) (has turns_j s) (has turns_i s) (now j (s + 1)) (now i (s + 1))
-        (delta j (s + 1)) (delta i (s + 1)) (turned j (s + 1)) (turned i (s + 1)) (is_edges s)
+        one_leg (has edges s) (rounds s) (rounds (s + 1)) (has flips_j s) (has flips_i s) (now j (s + 1)) (now i (s + 1))
+        (delta j (s + 1)) (delta i (s + 1)) (flipped j (s + 1)) (flipped i (s + 1)) (is_edges s)
         (λ out. are_j.inside s (is_inner s ∙ out)) (λ out. are_i.inside s (is_inner s ∙ out)) swapped
-        (λ both. stays j s turns_j are_j (of_second i j) p.away_in in_s both)
-        (λ both. stays i s turns_i are_i (of_first i j) p.home_in in_s both)
+        (λ both. stays j s flips_j are_j (of_second i j) p.away_in in_s both)
+        (λ both. stays i s flips_i are_i (of_first i j) p.home_in in_s both)
       where
         swapped : (rounds s && rounds (s + 1)) ≡ true →
-            (delta j (s + 1) ≡ turned i (s + 1)) × (delta i (s + 1) ≡ turned j (s + 1))
+            (delta j (s + 1) ≡ flipped i (s + 1)) × (delta i (s + 1) ≡ flipped j (s + 1))
         swapped both =
             let parts = and_parts (rounds s) (rounds (s + 1)) both in
             let next : s + 1 < round_count g.teams = next_in s in_s parts.1 in (
-              both_in j s next parts.0 parts.1 ∙ ap (λ t. turned t (s + 1)) (exchanged_second i j),
-              both_in i s next parts.0 parts.1 ∙ ap (λ t. turned t (s + 1)) (exchanged_first i j),
+              both_in j s next parts.0 parts.1 ∙ ap (λ t. flipped t (s + 1)) (exchanged_second i j),
+              both_in i s next parts.0 parts.1 ∙ ap (λ t. flipped t (s + 1)) (exchanged_first i j),
             )
 
     pub own_balance :
         (part_of delta g rounds j + part_of delta g rounds i) +
         ((if rounds 0 then now j 0 + now i 0 else 0) +
         (sum_where (round_count g.teams) (has edges) (λ s. now j (s + 1) + now i (s + 1)) +
-        (sum_where (round_count g.teams) (has turns_j) (λ s. now j (s + 1)) +
-        sum_where (round_count g.teams) (has turns_i) (λ s. now i (s + 1))))) ≡
+        (sum_where (round_count g.teams) (has flips_j) (λ s. now j (s + 1)) +
+        sum_where (round_count g.teams) (has flips_i) (λ s. now i (s + 1))))) ≡
         (part_of now g rounds j + part_of now g rounds i) +
         ((if rounds 0 then delta j 0 + delta i 0 else 0) +
         (sum_where (round_count g.teams) (has edges) (λ s. delta j (s + 1) + delta i (s + 1)) +
-        (sum_where (round_count g.teams) (has turns_j) (λ s. turned j (s + 1)) +
-        sum_where (round_count g.teams) (has turns_i) (λ s. turned i (s + 1)))))
+        (sum_where (round_count g.teams) (has flips_j) (λ s. flipped j (s + 1)) +
+        sum_where (round_count g.teams) (has flips_i) (λ s. flipped i (s + 1)))))
     own_balance =
         all_legs _ _ _ _ _ _ _ _ _ _ (own_legs_of g delta i j rounds some beyond) (own_legs_of g now i j rounds some beyond)
         (sum_below_balance (round_count g.teams)
         (λ s. if rounds s || rounds (s + 1) then delta j (s + 1) + delta i (s + 1) else 0)
         (λ s. if rounds s || rounds (s + 1) then now j (s + 1) + now i (s + 1) else 0)
         (λ s. (if has edges s then delta j (s + 1) + delta i (s + 1) else 0) +
-        ((if has turns_j s then turned j (s + 1) else 0) + (if has turns_i s then turned i (s + 1) else 0)))
+        ((if has flips_j s then flipped j (s + 1) else 0) + (if has flips_i s then flipped i (s + 1) else 0)))
         (λ s. (if has edges s then now j (s + 1) + now i (s + 1) else 0) +
-        ((if has turns_j s then now j (s + 1) else 0) + (if has turns_i s then now i (s + 1) else 0)))
+        ((if has flips_j s then now j (s + 1) else 0) + (if has flips_i s then now i (s + 1) else 0)))
         each)
         (three_sums (round_count g.teams) (λ s. if has edges s then now j (s + 1) + now i (s + 1) else 0)
-        (λ s. if has turns_j s then now j (s + 1) else 0) (λ s. if has turns_i s then now i (s + 1) else 0))
+        (λ s. if has flips_j s then now j (s + 1) else 0) (λ s. if has flips_i s then now i (s + 1) else 0))
         (three_sums (round_count g.teams) (λ s. if has edges s then delta j (s + 1) + delta i (s + 1) else 0)
-        (λ s. if has turns_j s then turned j (s + 1) else 0) (λ s. if has turns_i s then turned i (s + 1) else 0))
+        (λ s. if has flips_j s then flipped j (s + 1) else 0) (λ s. if has flips_i s then flipped i (s + 1) else 0))
 
 -- the sets of the walk
 
@@ -237,14 +237,14 @@ pub has_both : (set k : ℕ) → all_below 2 (λ n. has set (k + n)) ≡ (has se
 unfolding all_below
 has_both set k = rw (add-zero k) refl
 
-pub are_turns : (g : Games) (inner t home like set n : ℕ) → n ≡ round_count g.teams →
+pub are_flips : (g : Games) (inner t home like set n : ℕ) → n ≡ round_count g.teams →
     ((r : ℕ) → has home r ≡ (nat_lt r (round_count g.teams) && is_home g t r)) →
     ((s : ℕ) → has like s ≡ (nat_lt (s + 1) n && beq (has home s) (has home (s + 1)))) →
-    ((s : ℕ) → has set s ≡ (has inner s && not (has like s))) → AreTurns g inner t set
-unfolding turns
-are_turns g inner t home like set n is_n is_home_set is_like is_set = record {
+    ((s : ℕ) → has set s ≡ (has inner s && not (has like s))) → AreFlips g inner t set
+unfolding flips
+are_flips g inner t home like set n is_n is_home_set is_like is_set = record {
   inside = λ s out. is_set s ∙ and_left (has inner s) (not (has like s)) out;
-  turning = λ s next is.
+  flipping = λ s next is.
       is_set s ∙ ap (λ b. b && not (has like s)) is ∙
       ap not (is_like s ∙ ap (λ b. b && beq (has home s) (has home (s + 1))) (lt-ltb (s + 1) n (omega arith)) ∙
       ap₂ beq (at_home s (omega arith)) (at_home (s + 1) next));

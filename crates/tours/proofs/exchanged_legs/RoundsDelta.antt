@@ -24,8 +24,8 @@ use Rattle.tours.proofs.exchanged_legs.ExchangedTours.{legs_exchanged, legs_afte
 two_on : (k : ℕ) → k + 1 + 1 ≡ k + 2
 two_on k = omega arith
 
-pub exchanged_turned : (k l r : ℕ) → exchanged k l r ≡ exchanged l k r
-exchanged_turned k l r = grind (arith, nat_tests)
+pub exchanged_swapped : (k l r : ℕ) → exchanged k l r ≡ exchanged l k r
+exchanged_swapped k l r = grind (arith, nat_tests)
 
 before_first : (k l : ℕ) → k < l → exchanged (k + 1) (l + 1) k ≡ k
 before_first k l ordered = exchanged_other (k + 1) (l + 1) k (λ e. omega arith) (λ e. omega arith)
@@ -204,8 +204,8 @@ of_changed new old now after part_now part_after whole parts = omega arith
 
 -- the balance, by the legs of each team
 
-either_turned : (k l r : ℕ) → two_rounds k l r ≡ two_rounds l k r
-either_turned k l r = grind arith
+either_swapped : (k l r : ℕ) → two_rounds k l r ≡ two_rounds l k r
+either_swapped k l r = grind arith
 
 by_teams : (g : Games) (f : ℕ → ℕ → ℕ) (among teams rounds : ℕ → Bool) (k l : ℕ) → k < l → l < round_count g.teams →
     rounds ≡ two_rounds k l → ((t : ℕ) → t < g.teams → teams t ≡ among t) →
@@ -254,5 +254,5 @@ module _ (l : LeagueData) (g : Games) (rr : IsDoubleRoundRobin g) (k m : ℕ) (p
       travel l g + sum_where g.teams teams (legs_changed g (leg_exchanged l g m k) m k)
   delta_back teams members ordered =
       of_changed _ _ _ _ _ _
-      (delta teams m k members ordered p.home_in (fun_ext (either_turned k m)) (fun_ext (exchanged_turned (k + 1) (m + 1))))
+      (delta teams m k members ordered p.home_in (fun_ext (either_swapped k m)) (fun_ext (exchanged_swapped (k + 1) (m + 1))))
       (changed_balance l g m k teams)

@@ -48,7 +48,7 @@ module _ (l : LeagueData) (g : Games) (rr : IsDoubleRoundRobin g) (i j : ℕ) (r
   at_host =
       tour_at_round g guest r in_r ∙
       ap (λ b. if b then guest else (cell g guest r).opponent) (side_of_opponent g rr host r in_host in_r ∙ ap not home) ∙
-      (IsPairing-opponents g rr r in_r).turn.back host in_host
+      (IsPairing-opponents g rr r in_r).partners.back host in_host
 
   delta_at : (k : ℕ) → stop_predicted g i j rounds guest k ≡
       (if is_either i j (stop_at k) && in_rounds g rounds k then exchanged i j (stop_at k) else stop_at k)
@@ -115,7 +115,7 @@ module _ (l : LeagueData) (g : Games) (rr : IsDoubleRoundRobin g) (i j : ℕ) (r
   apart = (IsPairing-opponents g rr r in_r).apart host in_host
 
   in_guest : guest < g.teams
-  in_guest = (IsPairing-opponents g rr r in_r).turn.in_range host in_host
+  in_guest = (IsPairing-opponents g rr r in_r).partners.in_range host in_host
 
   visited_at : (q o : ℕ) (at_home : Bool) → IsCell g guest q (record { opponent = o; home = at_home }) →
       (if at_home then guest else o) ≡ host → round_of g host guest ≡ q

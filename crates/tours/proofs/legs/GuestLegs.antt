@@ -11,7 +11,7 @@ use Rattle.tours.specs.Tours.{leg_count}
 use Rattle.tours.specs.Parts.{touches_leg}
 use Rattle.tours.specs.within.Walked.{with_guests, part_of, there_and_on, guest_terms}
 use Rattle.tours.proofs.legs.TravelWalk.{inside, outside, sum_where_swap}
-use Rattle.tours.proofs.meetings.Turned.{sum_below_turned}
+use Rattle.tours.proofs.meetings.Partners.{sum_below_partners}
 use Rattle.tours.proofs.meetings.Opponents.{opponent_in, side_of_opponent, IsPairing-opponents}
 
 -- The terms next to marked places: those before a mark or after it. Counted at the marks, each with its own term and,
@@ -180,7 +180,7 @@ unfolding place
 guests_by_host g teams f r rr in_r =
     sum_below_same g.teams (λ t. if not (teams t) && teams (place g t r) then f t else 0) (as_guest g teams f r)
     (λ t in_t. away_there (cell g t r).home (teams t) (teams (opponent_in g r t)) (f t) teams t (opponent_in g r t) refl refl) ∙
-    sym (sum_below_turned g.teams (opponent_in g r) (as_guest g teams f r) (IsPairing-opponents g rr r in_r).turn) ∙
+    sym (sum_below_partners g.teams (opponent_in g r) (as_guest g teams f r) (IsPairing-opponents g rr r in_r).partners) ∙
     sum_below_same g.teams (λ t. as_guest g teams f r (opponent_in g r t))
     (λ t. if teams t then (if (cell g t r).home && not (teams (opponent_in g r t)) then f (opponent_in g r t) else 0) else 0) each
   where
@@ -192,7 +192,7 @@ guests_by_host g teams f r rr in_r =
         then f (opponent_in g r t) else 0)
         (side_of_opponent g rr t r in_t in_r) ∙
         ap (λ u. if not (not (cell g t r).home) && (not (teams (opponent_in g r t)) && teams u) then f (opponent_in g r t) else 0)
-        ((IsPairing-opponents g rr r in_r).turn.back t in_t) ∙
+        ((IsPairing-opponents g rr r in_r).partners.back t in_t) ∙
         hosted (cell g t r).home (teams t) (teams (opponent_in g r t)) (f (opponent_in g r t))
 
 -- host by host, in its rounds at home
@@ -227,14 +227,14 @@ pub sum_of_visits : (g : Games) (f : ℕ → ℕ) (t home rounds visits : ℕ) �
 sum_of_visits g f t home rounds visits homes members =
     sum_where_same (round_count g.teams) (has visits) (λ r. has rounds r && is_home g t r) f f
     (λ r in_r. members r ∙ ap (λ b. b && has rounds r) (homes r ∙ ap (λ b. b && is_home g t r) (lt-ltb r (round_count g.teams) in_r)) ∙
-    turned (is_home g t r) (has rounds r))
+    swapped (is_home g t r) (has rounds r))
     (λ r in_r passes. refl)
   where
-    turned : (a b : Bool) → (a && b) ≡ (b && a)
-    turned true true = refl
-    turned true false = refl
-    turned false true = refl
-    turned false false = refl
+    swapped : (a b : Bool) → (a && b) ≡ (b && a)
+    swapped true true = refl
+    swapped true false = refl
+    swapped false true = refl
+    swapped false false = refl
 
 -- the legs of the teams of the first set, and of their guests, that touch a round of the second
 abbrev pub around : (ℕ → ℕ → ℕ) → Games → (ℕ → Bool) → (ℕ → Bool) → ℕ

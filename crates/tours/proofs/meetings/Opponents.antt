@@ -3,7 +3,7 @@ use Rattle.std.proofs.Common.{◌≡◌, ℕ, ◌<◌, Bool, true, false, not, s
 use Rattle.fixtures.specs.declared.game.Cell.{Cell}
 use Rattle.fixtures.specs.Games.{Games, round_count, cell, IsCell, IsDoubleRoundRobin}
 use Rattle.fixtures.proofs.ForCallers.{pair_swapped, cell_is, is_cell}
-use Rattle.tours.proofs.meetings.Turned.{IsPairing}
+use Rattle.tours.proofs.meetings.Partners.{IsPairing}
 
 abbrev pub opponent_in : Games → ℕ → ℕ → ℕ
 opponent_in g r t = (cell g t r).opponent
@@ -26,7 +26,7 @@ side_of_opponent g rr t r in_t in_r = ap (λ (c : Cell). c.home) (cell_of_oppone
 
 pub IsPairing-opponents : (g : Games) → IsDoubleRoundRobin g → (r : ℕ) → r < round_count g.teams → IsPairing g.teams (opponent_in g r)
 IsPairing-opponents g rr r in_r = record {
-  turn = record {
+  partners = record {
     in_range = λ t in_t. (is_cell g rr t r in_t in_r).pair.away_in;
     back = λ t in_t. ap (λ (c : Cell). c.opponent) (cell_of_opponent g rr t r in_t in_r);
   };

@@ -66,9 +66,9 @@ module _ (g : Games) (rr : IsDoubleRoundRobin g) (of : Cell → ℕ → ℕ) (t 
         cond-true (round_with at_home o == r) _ _ (eq-eqb (round_with at_home o) r is.in_round)
 
     of_other_side : (home : Bool) → home ≢ at_home → sum_below g.teams (λ x. term home x r) ≡ 0
-    of_other_side home turned =
+    of_other_side home differs =
         sum_below_zero g.teams (λ x. term home x r)
-        (λ x in_x. term_none home x in_x (λ e. turned (ap (λ (c : Cell). c.home) e)))
+        (λ x in_x. term_none home x in_x (λ e. differs (ap (λ (c : Cell). c.home) e)))
 
   of_round : (r o : ℕ) (at_home : Bool) → IsCell g t r (side at_home o) →
       sum_below g.teams (λ x. term true x r) + sum_below g.teams (λ x. term false x r) ≡ of (side at_home o) r

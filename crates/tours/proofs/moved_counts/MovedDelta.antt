@@ -121,11 +121,11 @@ around_by_rounds start g t rr in_t =
     (λ x in_x. by_tests (t == x) (round_of g t x == start t x)))
     (sum_below_same g.teams (λ h. moved_one start g h t) (by_opponent g (cell_moved start t) t false)
     (λ x in_x. by_tests (x == t) (round_of g x t == start x t) ∙
-    ap (λ b. if b then 0 else if not (round_of g x t == start x t) then 1 else 0) (turned x t))) ∙
+    ap (λ b. if b then 0 else if not (round_of g x t == start x t) then 1 else 0) (swapped x t))) ∙
     by_rounds g rr (cell_moved start t) t in_t
   where
-    turned : (x y : ℕ) → (x == y) ≡ (y == x)
-    turned x y = grind (arith, nat_tests)
+    swapped : (x y : ℕ) → (x == y) ≡ (y == x)
+    swapped x y = grind (arith, nat_tests)
 
 -- two teams don't meet in a round of the set, where it has none of the rounds of their games
 pub apart : (g : Games) (rr : IsDoubleRoundRobin g) (among : ℕ → Bool) (t u r : ℕ) → t < g.teams → r < round_count g.teams →

@@ -143,15 +143,15 @@ module _ (g : Games) (rr : IsDoubleRoundRobin g) (i j : ℕ) (p : IsPair g.teams
   nexts r x y z w a b c d =
       ap₂ (λ u v. u + v) (ap₂ (λ u v. if u == v then 1 else 0) a b) (ap₂ (λ u v. if u == v then 1 else 0) c d)
 
-  turned_about : (x y : ℕ) → x + y ≡ y + x
-  turned_about x y = omega arith
+  sum_swapped : (x y : ℕ) → x + y ≡ y + x
+  sum_swapped x y = omega arith
 
   nexts_within : (r : ℕ) → r + 1 < round_count g.teams → among r ≡ true → among (r + 1) ≡ true →
       meets_next after j j r + meets_next after i i r ≡ meets_next g j j r + meets_next g i i r
   nexts_within r in_r here next =
       nexts r _ _ _ _ (second_there r (omega arith) here) (second_there (r + 1) in_r next) (first_there r (omega arith) here)
       (first_there (r + 1) in_r next) ∙
-      turned_about (meets_next g i i r) (meets_next g j j r)
+      sum_swapped (meets_next g i i r) (meets_next g j j r)
 
   nexts_at_edge : (r : ℕ) → r + 1 < round_count g.teams → (among r || among (r + 1)) ≡ true → (among r && among (r + 1)) ≡ false →
       meets_next after j j r + meets_next after i i r ≡ meets_next g j i r + meets_next g i j r
@@ -160,7 +160,7 @@ module _ (g : Games) (rr : IsDoubleRoundRobin g) (i j : ℕ) (p : IsPair g.teams
         let next : among (r + 1) ≡ false = sym (ap (λ b. b && among (r + 1)) here) ∙ not_both in
         nexts r _ _ _ _ (second_there r (omega arith) here) (own_elsewhere j (r + 1) p.away_in in_r next)
         (first_there r (omega arith) here) (own_elsewhere i (r + 1) p.home_in in_r next) ∙
-        turned_about (meets_next g i j r) (meets_next g j i r)
+        sum_swapped (meets_next g i j r) (meets_next g j i r)
     | inr out ↦
         let next : among (r + 1) ≡ true = sym (ap (λ b. b || among (r + 1)) out) ∙ touched in
         nexts r _ _ _ _ (own_elsewhere j r p.away_in (omega arith) out) (second_there (r + 1) in_r next)

@@ -19,7 +19,7 @@ use Rattle.tours.proofs.balances.Balances.{where_balance}
 use Rattle.tours.proofs.exchanged_legs.ExchangedTours.{exchanged_next}
 use Rattle.tours.proofs.meetings.Opponents.{opponent_in}
 use Rattle.tours.proofs.exchanged_legs.OwnLegs.{first_leg}
-use Rattle.tours.proofs.exchanged_legs.RoundsDelta.{exchanged_terms, exchanged_turned, legs_touched, stop_same, touches_two, two_rounds}
+use Rattle.tours.proofs.exchanged_legs.RoundsDelta.{exchanged_terms, exchanged_swapped, legs_touched, stop_same, touches_two, two_rounds}
 use Rattle.tours.proofs.exchanged_legs.RoundsDelta.{two_before, two_after, neighbours_before, neighbours_after}
 use Rattle.tours.proofs.meetings.HigherTeams.{at_higher, repeats_after_higher}
 
@@ -32,8 +32,8 @@ untouched r k m out = (
   exchanged_other (k + 1) (m + 1) (r + 1) (λ e. absurd (grind (arith, nat_tests))) (λ e. absurd (grind (arith, nat_tests))),
 )
 
-turned_about : (old new : ℕ) → new + old ≡ old + new
-turned_about old new = omega arith
+sum_swapped : (old new : ℕ) → new + old ≡ old + new
+sum_swapped old new = omega arith
 
 terms_balance : (g : Games) (between : ℕ → ℕ → ℕ) (k m : ℕ) → k < m → m < round_count g.teams →
     sum_below (leg_count g) (exchanged_terms between k m) + legs_around (λ r. between r (r + 1)) k m ≡
@@ -46,7 +46,7 @@ terms_balance g between k m ordered in_m =
     (λ r. if touches_leg g (two_rounds k m) r then exchanged_terms between k m r else 0)
     (λ r. if touches_leg g (two_rounds k m) r then between r (r + 1) else 0)
     (λ r in_r. where_balance (touches_leg g (two_rounds k m) r) (touches_leg g (two_rounds k m) r) _ _ _ _ refl
-    (λ _. turned_about (between r (r + 1)) (exchanged_terms between k m r))
+    (λ _. sum_swapped (between r (r + 1)) (exchanged_terms between k m r))
     (λ out.
     let stops = untouched r k m (sym (touches_two r k m (round_count g.teams) (omega arith) in_m) ∙ out) in
     ap₂ between stops.0 stops.1)) ∙
@@ -200,12 +200,12 @@ module _ (g : Games) (rr : IsDoubleRoundRobin g) (k l : ℕ) (p : IsPair (round_
   pub repeats_back : (teams : ℕ → Bool) → ((t : ℕ) → t < g.teams → teams t ≡ among t) → l < k →
       repeats after + sum_where g.teams teams (λ t. repeats_around (met g t) (λ r. r) t l k) ≡
       repeats g + sum_where g.teams teams (λ t. repeats_around (met g t) (exchanged (l + 1) (k + 1)) t l k)
-  repeats_back teams members ordered = delta teams l k members ordered p.home_in (fun_ext (exchanged_turned (k + 1) (l + 1)))
+  repeats_back teams members ordered = delta teams l k members ordered p.home_in (fun_ext (exchanged_swapped (k + 1) (l + 1)))
 
 -- the terms of a team, by the teams x and y that it meets in the two rounds
 
-turned_lower : (t a b : ℕ) → same_lower t a b ≡ same_lower t b a
-turned_lower t a b = grind (arith, nat_tests)
+lower_swapped : (t a b : ℕ) → same_lower t a b ≡ same_lower t b a
+lower_swapped t a b = grind (arith, nat_tests)
 
 others_none : (t a b : ℕ) → a ≢ b → same_lower t a b ≡ 0
 others_none t a b other = grind (arith, nat_tests)
@@ -228,13 +228,13 @@ module _ (meets : ℕ → ℕ) (t k l x y : ℕ) (in_k : meets (k + 1) ≡ x) (i
   with_x index = ap (λ a. same_lower t a (meets index)) (sym in_k)
 
   x_with : (index : ℕ) → same_lower t x (meets index) ≡ lower index (k + 1)
-  x_with index = with_x index ∙ turned_lower t (meets (k + 1)) (meets index)
+  x_with index = with_x index ∙ lower_swapped t (meets (k + 1)) (meets index)
 
   with_y : (index : ℕ) → same_lower t y (meets index) ≡ lower (l + 1) index
   with_y index = ap (λ a. same_lower t a (meets index)) (sym in_l)
 
   y_with : (index : ℕ) → same_lower t y (meets index) ≡ lower index (l + 1)
-  y_with index = with_y index ∙ turned_lower t (meets (l + 1)) (meets index)
+  y_with index = with_y index ∙ lower_swapped t (meets (l + 1)) (meets index)
 
   apart : (meets (k + 1) == meets (l + 1)) ≡ false
   apart = ne_eqb _ _ (λ e. other (sym in_k ∙ e ∙ in_l))

@@ -13,7 +13,7 @@ use Rattle.fixtures.specs.Games.{Games, round_of, round_count, games, cell, is_h
 use Rattle.fixtures.specs.Edits.{exchanged, rounds_exchanged, teams_exchanged}
 use Rattle.fixtures.specs.within.Edits.{is_either}
 use Rattle.fixtures.specs.Closed.{IsClosed, plays_in}
-use Rattle.fixtures.specs.Changes.{turns}
+use Rattle.fixtures.specs.Changes.{flips}
 use Rattle.fixtures.proofs.ForCallers.{exchanged_first, exchanged_second, exchanged_other, cases_exchanged}
 use Rattle.fixtures.proofs.ForCallers.{cell_rounds_exchanged, cell_teams_exchanged, other_cell, StaysAmong}
 use Rattle.tours.specs.Runs.{runs_of, runs_over}
@@ -39,18 +39,18 @@ by_tests true true new old same = omega arith
 by_tests true false new old same = ap (λ x. x + 0) (same refl)
 by_tests false b new old same = ap (λ x. x + 0) (same refl)
 
--- no side differs but of the turning teams of a set
-runs_by_teams : (g : Games) (at : ℕ → ℕ → ℕ) (limit : ℕ) (teams turning : ℕ → Bool) →
-    ((t r : ℕ) → t < g.teams → r < round_count g.teams → (teams t && turning t) ≡ false →
+-- no side differs but of the flipping teams of a set
+runs_by_teams : (g : Games) (at : ℕ → ℕ → ℕ) (limit : ℕ) (teams flipping : ℕ → Bool) →
+    ((t r : ℕ) → t < g.teams → r < round_count g.teams → (teams t && flipping t) ≡ false →
     is_home (games g.teams at) t r ≡ is_home g t r) →
-    runs_over (games g.teams at) limit + sum_where g.teams teams (λ t. if turning t then runs_of g limit t else 0) ≡
-    runs_over g limit + sum_where g.teams teams (λ t. if turning t then runs_of (games g.teams at) limit t else 0)
+    runs_over (games g.teams at) limit + sum_where g.teams teams (λ t. if flipping t then runs_of g limit t else 0) ≡
+    runs_over g limit + sum_where g.teams teams (λ t. if flipping t then runs_of (games g.teams at) limit t else 0)
 unfolding runs_over
-runs_by_teams g at limit teams turning others =
+runs_by_teams g at limit teams flipping others =
     sum_below_balance g.teams (runs_of (games g.teams at) limit) (runs_of g limit)
-    (λ t. if teams t then (if turning t then runs_of (games g.teams at) limit t else 0) else 0)
-    (λ t. if teams t then (if turning t then runs_of g limit t else 0) else 0)
-    (λ t in_t. by_tests (teams t) (turning t) (runs_of (games g.teams at) limit t) (runs_of g limit t)
+    (λ t. if teams t then (if flipping t then runs_of (games g.teams at) limit t else 0) else 0)
+    (λ t. if teams t then (if flipping t then runs_of g limit t else 0) else 0)
+    (λ t in_t. by_tests (teams t) (flipping t) (runs_of (games g.teams at) limit t) (runs_of g limit t)
     (λ out. runs_of_same g (games g.teams at) limit t refl (λ r in_r. others t r in_t in_r out)))
 
 at_most_all : (a b : Bool) (x : ℕ) → (if a then (if b then x else 0) else 0) ≤ x
@@ -59,12 +59,12 @@ at_most_all true false x = omega arith
 at_most_all false b x = omega arith
 
 -- which are no more than all
-pub part_of_runs : (g : Games) (limit : ℕ) (teams turning : ℕ → Bool) →
-    sum_where g.teams teams (λ t. if turning t then runs_of g limit t else 0) ≤ runs_over g limit
+pub part_of_runs : (g : Games) (limit : ℕ) (teams flipping : ℕ → Bool) →
+    sum_where g.teams teams (λ t. if flipping t then runs_of g limit t else 0) ≤ runs_over g limit
 unfolding runs_over
-part_of_runs g limit teams turning =
-    sum_below_le_each g.teams (λ t. if teams t then (if turning t then runs_of g limit t else 0) else 0) (runs_of g limit)
-    (λ t in_t. at_most_all (teams t) (turning t) (runs_of g limit t))
+part_of_runs g limit teams flipping =
+    sum_below_le_each g.teams (λ t. if teams t then (if flipping t then runs_of g limit t else 0) else 0) (runs_of g limit)
+    (λ t in_t. at_most_all (teams t) (flipping t) (runs_of g limit t))
 
 guarded : (guard a b : Bool) → (guard ≡ true → a ≡ b) → (guard && a) ≡ (guard && b)
 guarded true a b same = same refl
@@ -73,8 +73,8 @@ guarded false a b same = refl
 -- ---- rounds
 
 -- a team that is on one side in both rounds stays on its sides
-unturned : (g : Games) (k l t r : ℕ) → turns g k l t ≡ false → is_home g t (exchanged k l r) ≡ is_home g t r
-unturned g k l t r same =
+unflipped : (g : Games) (k l t r : ℕ) → flips g k l t ≡ false → is_home g t (exchanged k l r) ≡ is_home g t r
+unflipped g k l t r same =
     let alike = same_side g k l t same in
     elim (cases_exchanged k l r) [
       | inl e ↦ ap (is_home g t) (ap (exchanged k l) e ∙ exchanged_first k l) ∙ sym alike ∙ ap (is_home g t) (sym e)
@@ -99,20 +99,20 @@ module _ (g : Games) (rr : IsDoubleRoundRobin g) (k l : ℕ) (p : IsPair (round_
       by_set true e = ap (λ (c : Cell). c.home) (cond-true _ _ _ e)
       by_set false e = ap (λ (c : Cell). c.home) (cond-false _ _ _ e)
 
-  others_stay : (t r : ℕ) → t < g.teams → r < round_count g.teams → (among t && turns g k l t) ≡ false →
+  others_stay : (t r : ℕ) → t < g.teams → r < round_count g.teams → (among t && flips g k l t) ≡ false →
       is_home after t r ≡ is_home g t r
   others_stay t r in_t in_r out = elim (cases_Bool (among t)) [
     | inl is_in ↦
-        side_after t r true is_in in_t in_r ∙ unturned g k l t r (sym (ap (λ b. b && turns g k l t) is_in) ∙ out)
+        side_after t r true is_in in_t in_r ∙ unflipped g k l t r (sym (ap (λ b. b && flips g k l t) is_in) ∙ out)
     | inr is_out ↦ side_after t r false is_out in_t in_r
   ]
 
-  pub of_turning : (limit : ℕ) (teams : ℕ → Bool) → ((t : ℕ) → t < g.teams → teams t ≡ among t) →
-      runs_over after limit + sum_where g.teams teams (λ t. if turns g k l t then runs_of g limit t else 0) ≡
-      runs_over g limit + sum_where g.teams teams (λ t. if turns g k l t then runs_of after limit t else 0)
-  of_turning limit teams members =
-      runs_by_teams g (λ h a. if among h then exchanged k l (round_of g h a) else round_of g h a) limit teams (turns g k l)
-      (λ t r in_t in_r out. others_stay t r in_t in_r (sym (ap (λ b. b && turns g k l t) (members t in_t)) ∙ out))
+  pub of_flipping : (limit : ℕ) (teams : ℕ → Bool) → ((t : ℕ) → t < g.teams → teams t ≡ among t) →
+      runs_over after limit + sum_where g.teams teams (λ t. if flips g k l t then runs_of g limit t else 0) ≡
+      runs_over g limit + sum_where g.teams teams (λ t. if flips g k l t then runs_of after limit t else 0)
+  of_flipping limit teams members =
+      runs_by_teams g (λ h a. if among h then exchanged k l (round_of g h a) else round_of g h a) limit teams (flips g k l)
+      (λ t r in_t in_r out. others_stay t r in_t in_r (sym (ap (λ b. b && flips g k l t) (members t in_t)) ∙ out))
 
 -- a team of the set has the sides that it has where the two are exchanged for all teams
 abbrev for_all : Games → ℕ → ℕ → Games
@@ -125,19 +125,19 @@ side_for_all g k l rr p t r = side_after g rr k l p (λ _. true) (λ x y step me
 
 pub rounds_delta : (g : Games) (rr : IsDoubleRoundRobin g) (k l : ℕ) (p : IsPair (round_count g.teams) k l) (among : ℕ → Bool) →
     IsClosed (plays_in g k l) among → (limit : ℕ) (teams : ℕ → Bool) → ((t : ℕ) → t < g.teams → teams t ≡ among t) →
-    runs_over (rounds_exchanged g k l among) limit + sum_where g.teams teams (λ t. if turns g k l t then runs_of g limit t else 0) ≡
-    runs_over g limit + sum_where g.teams teams (λ t. if turns g k l t then runs_of (for_all g k l) limit t else 0)
+    runs_over (rounds_exchanged g k l among) limit + sum_where g.teams teams (λ t. if flips g k l t then runs_of g limit t else 0) ≡
+    runs_over g limit + sum_where g.teams teams (λ t. if flips g k l t then runs_of (for_all g k l) limit t else 0)
 rounds_delta g rr k l p among closed limit teams members =
-    of_turning g rr k l p among closed limit teams members ∙
+    of_flipping g rr k l p among closed limit teams members ∙
     ap (λ x. runs_over g limit + x)
-    (sum_where_same g.teams teams teams (λ t. if turns g k l t then runs_of (rounds_exchanged g k l among) limit t else 0)
-    (λ t. if turns g k l t then runs_of (for_all g k l) limit t else 0) (λ t in_t. refl)
-    (λ t in_t is_in. ap (λ x. if turns g k l t then x else 0)
+    (sum_where_same g.teams teams teams (λ t. if flips g k l t then runs_of (rounds_exchanged g k l among) limit t else 0)
+    (λ t. if flips g k l t then runs_of (for_all g k l) limit t else 0) (λ t in_t. refl)
+    (λ t in_t is_in. ap (λ x. if flips g k l t then x else 0)
     (runs_of_same (for_all g k l) (rounds_exchanged g k l among) limit t refl
     (λ r in_r. side_after g rr k l p among closed t r true (sym (members t in_t) ∙ is_in) in_t in_r ∙
     sym (side_for_all g k l rr p t r in_t in_r)))))
 
--- the home rounds of a team that turns
+-- the home rounds of a team that flips
 
 opposite : (a b : Bool) → not (beq a b) ≡ true → not a ≡ b
 opposite true true e = e
@@ -154,11 +154,11 @@ second_of r k l e = grind (arith, nat_tests)
 neither_of : (r k l : ℕ) → r ≢ k → r ≢ l → (r == l || (r == k || false)) ≡ false
 neither_of r k l not_k not_l = grind (arith, nat_tests)
 
-turned_at : (g : Games) (k l t r : ℕ) → turns g k l t ≡ true →
+flipped_at : (g : Games) (k l t r : ℕ) → flips g k l t ≡ true →
     (if r == l || (r == k || false) then not (is_home g t r) else is_home g t r) ≡ is_home g t (exchanged k l r)
-unfolding turns
-turned_at g k l t r turning =
-    let other : not (is_home g t k) ≡ is_home g t l = opposite (is_home g t k) (is_home g t l) turning in
+unfolding flips
+flipped_at g k l t r flipping =
+    let other : not (is_home g t k) ≡ is_home g t l = opposite (is_home g t k) (is_home g t l) flipping in
     elim (cases_exchanged k l r) [
       | inl e ↦
           cond-true _ _ _ (second_of r k l e) ∙ ap (λ x. not (is_home g t x)) e ∙ other ∙
@@ -174,16 +174,16 @@ turned_at g k l t r turning =
     twice true = refl
     twice false = refl
 
-pub turned_row : (g : Games) (t k l home both turned : ℕ) → IsDoubleRoundRobin g → IsPair (round_count g.teams) k l → t < g.teams →
-    HasHomes g t home → turns g k l t ≡ true →
+pub flipped_row : (g : Games) (t k l home both flipped : ℕ) → IsDoubleRoundRobin g → IsPair (round_count g.teams) k l → t < g.teams →
+    HasHomes g t home → flips g k l t ≡ true →
     ((r : ℕ) → has both r ≡ (r == l || (r == k || false))) →
-    ((r : ℕ) → has turned r ≡ (if has both r then not (has home r) else has home r)) → HasHomes (for_all g k l) t turned
-turned_row g t k l home both turned rr p in_t homes turning is_both is_turned r =
-    is_turned r ∙ ap (λ b. if b then not (has home r) else has home r) (is_both r) ∙
+    ((r : ℕ) → has flipped r ≡ (if has both r then not (has home r) else has home r)) → HasHomes (for_all g k l) t flipped
+flipped_row g t k l home both flipped rr p in_t homes flipping is_both is_flipped r =
+    is_flipped r ∙ ap (λ b. if b then not (has home r) else has home r) (is_both r) ∙
     ap (λ b. if r == l || (r == k || false) then not b else b) (homes r) ∙
     elim (cases_lt r (round_count g.teams)) [
       | inl in_r ↦
-          rw (lt-ltb r (round_count g.teams) in_r) (turned_at g k l t r turning ∙ sym (side_for_all g k l rr p t r in_t in_r))
+          rw (lt-ltb r (round_count g.teams) in_r) (flipped_at g k l t r flipping ∙ sym (side_for_all g k l rr p t r in_t in_r))
       | inr past ↦
           rw (le-ltb r (round_count g.teams) past)
           (cond-false _ _ _ (neither_of r k l (λ e. omega (arith, p.home_in)) (λ e. omega (arith, p.away_in))))
@@ -250,17 +250,17 @@ module _ (g : Games) (rr : IsDoubleRoundRobin g) (i j : ℕ) (p : IsPair g.teams
       pulled true w a b = refl
       pulled false w a b = refl
 
--- a bit of each row where the bits that differ are turned in a set
+-- a bit of each row where the bits that differ are flipped in a set
 
-module _ (a b among turned differ : Bool) (is_turned : turned ≡ (differ && among)) (is_differ : differ ≡ (if b then not a else a)) where
-  pub first_turned : (if turned then not a else a) ≡ (if among then b else a)
-  first_turned = rw (is_turned, is_differ) (by_bits a b among)
+module _ (a b among flipped differ : Bool) (is_flipped : flipped ≡ (differ && among)) (is_differ : differ ≡ (if b then not a else a)) where
+  pub first_flipped : (if flipped then not a else a) ≡ (if among then b else a)
+  first_flipped = rw (is_flipped, is_differ) (by_bits a b among)
     where
       by_bits : (a b among : Bool) → (if (if b then not a else a) && among then not a else a) ≡ (if among then b else a)
       by_bits a b among = grind arith
 
-  pub second_turned : (if turned then not b else b) ≡ (if among then a else b)
-  second_turned = rw (is_turned, is_differ) (by_bits a b among)
+  pub second_flipped : (if flipped then not b else b) ≡ (if among then a else b)
+  second_flipped = rw (is_flipped, is_differ) (by_bits a b among)
     where
       by_bits : (a b among : Bool) → (if (if b then not a else a) && among then not b else b) ≡ (if among then a else b)
       by_bits a b among = grind arith

@@ -4,7 +4,7 @@ use Rattle.league.specs.League.{LeagueData, distance}
 use Rattle.fixtures.specs.Games.{Games, round_count, cell, is_home}
 use Rattle.league.specs.Sets.{has}
 use Rattle.league.specs.Sums.{sum_where}
-use Rattle.fixtures.specs.Changes.{turns}
+use Rattle.fixtures.specs.Changes.{flips}
 use Rattle.fixtures.specs.Edits.{exchanged}
 use Rattle.fixtures.specs.within.Edits.{is_either}
 use Rattle.tours.specs.Runs.{windows, is_run}
@@ -42,21 +42,21 @@ abbrev pub leg_predicted : LeagueData → Games → ℕ → ℕ → (ℕ → Boo
 leg_predicted l g i j rounds t r = distance l (stop_predicted g i j rounds t r) (stop_predicted g i j rounds t (r + 1))
 
 -- the leg of a team with i and j exchanged among its places
-abbrev pub leg_turned : LeagueData → Games → ℕ → ℕ → ℕ → ℕ → ℕ
-leg_turned l g i j t r =
+abbrev pub leg_flipped : LeagueData → Games → ℕ → ℕ → ℕ → ℕ → ℕ
+leg_flipped l g i j t r =
     distance l (exchanged i j (slice_index (tour g t) r)) (exchanged i j (slice_index (tour g t) (r + 1)))
 
 -- a round after which a team plays on the other side, and neither in it nor in the next against i or j
-pub record IsTurn (g : Games) (i j t s : ℕ) : Type 0 where
+pub record IsFlip (g : Games) (i j t s : ℕ) : Type 0 where
   pub next : s + 1 < round_count g.teams
-  pub turning : turns g s (s + 1) t ≡ true
+  pub flipping : flips g s (s + 1) t ≡ true
   pub here : is_either i j (cell g t s).opponent ≡ false
   pub there : is_either i j (cell g t (s + 1)).opponent ≡ false
 
 -- the rounds of a set after which a team plays on the other side, if the next round is one of the season's
-pub record AreTurns (g : Games) (inner t set : ℕ) : Type 0 where
+pub record AreFlips (g : Games) (inner t set : ℕ) : Type 0 where
   pub inside : (s : ℕ) → has inner s ≡ false → has set s ≡ false
-  pub turning : (s : ℕ) → s + 1 < round_count g.teams → has inner s ≡ true → has set s ≡ turns g s (s + 1) t
+  pub flipping : (s : ℕ) → s + 1 < round_count g.teams → has inner s ≡ true → has set s ≡ flips g s (s + 1) t
 
 -- the rounds of the season in which a team is at home
 abbrev pub HasHomes : Games → ℕ → ℕ → Type 0

@@ -6,7 +6,7 @@ use Rattle.fixtures.specs.within.Edits.{is_either}
 use Rattle.tours.specs.declared.teams_delta.exchange.TeamExchange.{TeamExchange}
 use Rattle.tours.specs.Tours.{tour, leg}
 use Rattle.tours.specs.within.Walked.{guest_terms}
-use Rattle.tours.specs.within.Delta.{leg_predicted, leg_turned}
+use Rattle.tours.specs.within.Delta.{leg_predicted, leg_flipped}
 
 -- the leg of a team with this index
 abbrev pub leg_before : TeamExchange → ℕ → ℕ → ℕ
@@ -15,9 +15,9 @@ leg_before x = leg x.league.now x.schedule.now
 abbrev pub leg_after : TeamExchange → ℕ → ℕ → ℕ
 leg_after x = leg_predicted x.league.now x.schedule.now x.i x.j (has x.rounds)
 
--- in a round in which a team turns, inside the set
-abbrev pub turned_after : TeamExchange → ℕ → ℕ → ℕ
-turned_after x = leg_turned x.league.now x.schedule.now x.i x.j
+-- in a round in which a team flips, inside the set
+abbrev pub flipped_after : TeamExchange → ℕ → ℕ → ℕ
+flipped_after x = leg_flipped x.league.now x.schedule.now x.i x.j
 
 -- by such a function of legs, those around the game of a host's guest in a round of the set
 abbrev pub around_visit : TeamExchange → (ℕ → ℕ → ℕ) → ℕ → ℕ → ℕ

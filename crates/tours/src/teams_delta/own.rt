@@ -1,4 +1,4 @@
-//! The own legs of two teams that are exchanged: they change at the edges of the set, and where a team turns.
+//! The own legs of two teams that are exchanged: they change at the edges of the set, and where a team flips.
 
 ghost use Rattle.std.specs.Prelude.{◌≡◌, ℕ, ◌+◌, ◌*◌, ◌<◌, ◌≤◌, ◌==◌, not, true, if◌then◌else◌};
 ghost use Rattle.league.specs.Limits.{max_rounds, max_distance};
@@ -6,7 +6,7 @@ ghost use Rattle.league.specs.Sets.{has, IsBelow};
 ghost use Rattle.fixtures.specs.Games.{round_count};
 ghost use Rattle.fixtures.specs.Edits.{exchanged};
 ghost use Rattle.tours.specs.within.Walked.{part_of};
-ghost use Rattle.tours.specs.within.Delta.{AreSums, AreTurns, IsTurn};
+ghost use Rattle.tours.specs.within.Delta.{AreSums, AreFlips, IsFlip};
 
 use super::exchange::TeamExchange;
 use crate::delta::TravelDelta;
@@ -15,7 +15,7 @@ use fixtures::Schedule;
 use league::SlotSet;
 
 impl TeamExchange<'_> {
-    ghost use Rattle.tours.specs.within.Exchanges.{leg_before, leg_after, turned_after, stop_of, way_across};
+    ghost use Rattle.tours.specs.within.Exchanges.{leg_before, leg_after, flipped_after, stop_of, way_across};
 
     /// The own legs of `i` and `j` that change, of those that touch a round of the set.
     pub(super) fn own_legs(&self) -> TravelDelta
@@ -30,12 +30,12 @@ impl TeamExchange<'_> {
         let inner = self.rounds.starts_within(2);
         let either = self.rounds.starts_meeting(2);
         let edges = either.difference(inner);
-        let turns_i = turns(self.schedule, inner, self.i);
-        let turns_j = turns(self.schedule, inner, self.j);
+        let flips_i = flips(self.schedule, inner, self.i);
+        let flips_j = flips(self.schedule, inner, self.j);
         let first = self.first_legs();
         let at_edges = self.legs_at_edges(edges);
-        let of_i = self.turned_legs(self.i, turns_i);
-        let of_j = self.turned_legs(self.j, turns_j);
+        let of_i = self.flipped_legs(self.i, flips_i);
+        let of_j = self.flipped_legs(self.j, flips_j);
         TravelDelta {
             before: first.before + (at_edges.before + (of_j.before + of_i.before)),
             after: first.after + (at_edges.after + (of_j.after + of_i.after)),
@@ -123,17 +123,17 @@ impl TeamExchange<'_> {
     }
 
     /// The legs of a team after these rounds, with `i` and `j` exchanged among its places.
-    fn turned_legs(&self, team: u8, turns: SlotSet) -> TravelDelta
+    fn flipped_legs(&self, team: u8, flips: SlotSet) -> TravelDelta
         requires team { team < self.now.schedule.now.teams }
-        requires below { IsBelow (round_count self.now.schedule.now.teams) turns }
-        requires turning { (s : ℕ) → has turns s ≡ true → IsTurn self.now.schedule.now self.now.i self.now.j team s }
-        ensures { AreSums (round_count self.now.schedule.now.teams) turns max_distance result.before result.after
-            (λ s. leg_before self.now team (s + 1)) (λ s. turned_after self.now team (s + 1)) }
+        requires below { IsBelow (round_count self.now.schedule.now.teams) flips }
+        requires flipping { (s : ℕ) → has flips s ≡ true → IsFlip self.now.schedule.now self.now.i self.now.j team s }
+        ensures { AreSums (round_count self.now.schedule.now.teams) flips max_distance result.before result.after
+            (λ s. leg_before self.now team (s + 1)) (λ s. flipped_after self.now team (s + 1)) }
     {
         let mut before = 0;
         let mut after = 0;
-        for round in turns {
-            let legs = self.turned_leg(team, round);
+        for round in flips {
+            let legs = self.flipped_leg(team, round);
             before += legs.before;
             after += legs.after;
         }
@@ -141,11 +141,11 @@ impl TeamExchange<'_> {
     }
 
     /// The leg of a team after a round. One of its two places is the team's own home, in whose place the other's comes.
-    fn turned_leg(&self, team: u8, round: u8) -> TravelDelta
+    fn flipped_leg(&self, team: u8, round: u8) -> TravelDelta
         requires team { team < self.now.schedule.now.teams }
-        requires turn { IsTurn self.now.schedule.now self.now.i self.now.j team round }
+        requires flip { IsFlip self.now.schedule.now self.now.i self.now.j team round }
         ensures before { result.before ≡ leg_before self.now team (round + 1) }
-        ensures after { result.after ≡ turned_after self.now team (round + 1) }
+        ensures after { result.after ≡ flipped_after self.now team (round + 1) }
         ensures before_limit { result.before ≤ max_distance }
         ensures after_limit { result.after ≤ max_distance }
     {
@@ -162,10 +162,10 @@ impl TeamExchange<'_> {
 }
 
 /// The rounds of a set after which a team plays on the other side.
-fn turns(schedule: &Schedule, inner: SlotSet, team: u8) -> SlotSet
+fn flips(schedule: &Schedule, inner: SlotSet, team: u8) -> SlotSet
     requires team { team < schedule.now.teams }
     requires below { IsBelow (round_count schedule.now.teams) inner }
-    ensures members { AreTurns schedule.now inner team result }
+    ensures members { AreFlips schedule.now inner team result }
     ensures below { IsBelow (round_count schedule.now.teams) result }
 {
     let home = schedule.home_rounds(team);

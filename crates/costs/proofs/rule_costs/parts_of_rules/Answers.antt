@@ -56,11 +56,11 @@ loop-i-preserved c =
     record {
       hard = sum_without_more _ _ _ _ _ _ _ _ _ c.loop-i.invariant.hard taken
           (rw step.value at c.of_rule-added.ensures.hard ∙
-          ap (rule_part hard_penalty c.args.scope.now.main c.args.scope.now.turning c.args.schedule.now) (sym c.rule-rule.ensures.value))
+          ap (rule_part hard_penalty c.args.scope.now.main c.args.scope.now.flipping c.args.schedule.now) (sym c.rule-rule.ensures.value))
           c.of_rule-added.ensures.hard_most;
       soft = sum_without_more _ _ _ _ _ _ _ _ _ c.loop-i.invariant.soft taken
           (rw step.value at c.of_rule-added.ensures.soft ∙
-          ap (rule_part soft_penalty c.args.scope.now.main c.args.scope.now.turning c.args.schedule.now) (sym c.rule-rule.ensures.value))
+          ap (rule_part soft_penalty c.args.scope.now.main c.args.scope.now.flipping c.args.schedule.now) (sym c.rule-rule.ensures.value))
           c.of_rule-added.ensures.soft_most;
       same = record {
         known = step.same.known ∙ c.loop-i.invariant.same.known;
@@ -74,7 +74,7 @@ loop-i-preserved c =
           c.rule-rule.ensures.value in
           let kept : get_or c.part_before-part.new.self.kept c.in-Some.i 0 ≡ get_or c.args.deviations.now.kept c.in-Some.i 0 =
           ap (λ kept. get_or kept c.in-Some.i 0) (step.same.kept ∙ c.loop-i.invariant.same.kept) in
-          let least = part_le c.args.schedule.now c.args.scope.now.main.teams c.args.scope.now.main.rounds c.args.scope.now.turning
+          let least = part_le c.args.schedule.now c.args.scope.now.main.teams c.args.scope.now.main.rounds c.args.scope.now.flipping
           c.rule-rule.result.now.body in
           rw step.next
           (rest_more c.args.league.now.rules c.args.scope.now _ _ _ _ c.args.schedule.now c.loop-i.deviations.next c.rule-rule.result.now _

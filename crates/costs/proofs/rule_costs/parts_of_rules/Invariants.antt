@@ -11,9 +11,9 @@ use Rattle.costs.proofs.rule_costs.parts_of_rules.Given as goal
 abbrev pub invariant-loop-i : goal.invariant-loop-i
 invariant-loop-i l = record {
   hard : IsSumWithout (length l.league.rules) l.initial.i-iterator l.i-iterator l.costs.hard deviation_limit
-      (λ i. rule_part hard_penalty l.scope.main l.scope.turning l.schedule (slice_get l.league.rules i));
+      (λ i. rule_part hard_penalty l.scope.main l.scope.flipping l.schedule (slice_get l.league.rules i));
   soft : IsSumWithout (length l.league.rules) l.initial.i-iterator l.i-iterator l.costs.soft (max_weight * deviation_limit)
-      (λ i. rule_part soft_penalty l.scope.main l.scope.turning l.schedule (slice_get l.league.rules i));
+      (λ i. rule_part soft_penalty l.scope.main l.scope.flipping l.schedule (slice_get l.league.rules i));
   same : IsKeptOf l.deviations l.fn.deviations;
   next_length : length l.deviations.next ≡ max_rules;
   rests : l.deviations.is_known ≡ true → RestsWithout l.league.rules l.scope l.initial.i-iterator l.i-iterator l.schedule l.deviations.next;

@@ -50,7 +50,7 @@ loop-i-preserved c =
       within = λ i has_it. c.loop-i.invariant.within i (and_parts _ _ (sym (c.in-Some.ensures.steps.others i) ∙ has_it)).0;
       rests = λ others apart before known.
           let rests = c.loop-i.invariant.rests others apart before known in
-          let part = deviation_part c.args.schedule.now c.args.scope.now.main.teams c.args.scope.now.main.rounds c.args.scope.now.turning
+          let part = deviation_part c.args.schedule.now c.args.scope.now.main.teams c.args.scope.now.main.rounds c.args.scope.now.flipping
           c.rule-rule.result.now.body in
           let in_rules : has c.args.rules c.in-Some.i ≡ true = c.loop-i.invariant.within c.in-Some.i c.in-Some.ensures.steps.in_set in
           let lacks : (has c.loop-i.i-iterator c.in-Some.i || others c.in-Some.i) ≡ true =

@@ -1,12 +1,12 @@
 use Rattle.std.proofs.Common.{◌∙◌, ◌==◌, sym, ap}
 use Rattle.league.specs.Sets.{all_numbers}
-use Rattle.robinx.proofs.balances.PartTerms.{otherwise_turned, otherwise_met, otherwise_main, otherwise_around}
+use Rattle.robinx.proofs.balances.PartTerms.{otherwise_flipped, otherwise_met, otherwise_main, otherwise_around}
 use Rattle.robinx.proofs.around.teams_otherwise.Goals as goal
 
 pub returns-then-eq-clause-members : goal.returns-then-eq-clause-members
 returns-then-eq-clause-members c = λ t.
     c.intersection.ensures.members t ∙
-    otherwise_turned c.args.schedule.now c.args.change.now.main c.args.change.now.rounds c.args.change.now.sides c.args.opponents
+    otherwise_flipped c.args.schedule.now c.args.change.now.main c.args.change.now.rounds c.args.change.now.sides c.args.opponents
     c.args.teams t
     (sym (ap (λ s. c.args.opponents == s) (c.below.ensures.value ∙ ap all_numbers c.teams.ensures.number)) ∙ sym c.eq.ensures ∙
     c.if-eq.true)

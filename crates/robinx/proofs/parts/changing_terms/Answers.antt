@@ -4,7 +4,7 @@ use Rattle.league.specs.Sets.{has, all_numbers}
 use Rattle.league.proofs.ForCallers.{has_all_numbers}
 use Rattle.robinx.specs.Parts.{counts_otherwise, changing_terms}
 use Rattle.robinx.proofs.rows.AllTeams.{Ca2-all}
-use Rattle.robinx.proofs.balances.PartTerms.{Ca1-terms, Ca2-terms, Br1-terms, otherwise_turned}
+use Rattle.robinx.proofs.balances.PartTerms.{Ca1-terms, Ca2-terms, Br1-terms, otherwise_flipped}
 use Rattle.robinx.proofs.parts.changing_terms.Goals as goal
 
 pub returns-in-Ca1 : goal.returns-in-Ca1
@@ -23,7 +23,7 @@ returns-in-Ca1 c =
           c.in-Ca1.max games.result.teams
           (λ t.
           members t ∙
-          sym (otherwise_turned c.args.schedule.now c.args.change.now.main c.args.change.now.rounds c.args.change.now.sides all is.0 t
+          sym (otherwise_flipped c.args.schedule.now c.args.change.now.main c.args.change.now.rounds c.args.change.now.sides all is.0 t
           (eq-eqb all all refl))) ∙
           ap (changing_terms c.args.schedule.now c.args.change.now.main c.args.change.now.rounds c.args.change.now.sides) (sym is.2)
       | inr is ↦

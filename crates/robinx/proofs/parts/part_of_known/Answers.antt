@@ -29,14 +29,14 @@ fa2_part g main rounds sides teams slots most known is =
 
 pub returns-in-Br2-clause-value : goal.returns-in-Br2-clause-value
 returns-in-Br2-clause-value c = λ g is.
-    c.if_turned.ensures ∙
+    c.if_flipped.ensures ∙
     rw c.in-Br2.is
     (br2_part g c.args.main.teams c.args.main.rounds c.args.sides c.in-Br2.teams c.in-Br2.slots c.in-Br2.most c.args.known
     (is ∙ ap (deviation g) c.in-Br2.is))
 
 pub returns-in-Fa2-clause-value : goal.returns-in-Fa2-clause-value
 returns-in-Fa2-clause-value c = λ g is.
-    c.if_turned-in-Fa2.ensures ∙
+    c.if_flipped-in-Fa2.ensures ∙
     rw c.in-Fa2.is
     (fa2_part g c.args.main.teams c.args.main.rounds c.args.sides c.in-Fa2.teams c.in-Fa2.slots c.in-Fa2.most c.args.known
     (is ∙ ap (deviation g) c.in-Fa2.is))

@@ -8,14 +8,14 @@ pub loop-team-init : goal.loop-team-init
 loop-team-init c =
     totals_begun _ _ _ _ _ _ (omega (arith, c.into_iter-team-iterator.ensures.into_iter_gives)) refl
 
-pub turned_runs-runs-requires-clause-team : goal.turned_runs-runs-requires-clause-team
-turned_runs-runs-requires-clause-team c =
+pub flipped_runs-runs-requires-clause-team : goal.flipped_runs-runs-requires-clause-team
+flipped_runs-runs-requires-clause-team c =
     (next_in _ _ _ _ _ _ _ _ _ _ c.loop-team.invariant c.in-Some.ensures.steps).0
 
 pub loop-team-preserved : goal.loop-team-preserved
 loop-team-preserved c =
-    totals_more _ _ _ _ _ _ _ _ _ _ _ _ c.loop-team.invariant c.in-Some.ensures.steps c.turned_runs-runs.ensures.before
-    c.turned_runs-runs.ensures.after c.turned_runs-runs.ensures.before_limit c.turned_runs-runs.ensures.after_limit
+    totals_more _ _ _ _ _ _ _ _ _ _ _ _ c.loop-team.invariant c.in-Some.ensures.steps c.flipped_runs-runs.ensures.before
+    c.flipped_runs-runs.ensures.after c.flipped_runs-runs.ensures.before_limit c.flipped_runs-runs.ensures.after_limit
 
 pub returns-clause-balance : goal.returns-clause-balance
 returns-clause-balance c =

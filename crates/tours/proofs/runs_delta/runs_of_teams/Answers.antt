@@ -2,7 +2,7 @@ use Rattle.std.proofs.Common.{sym, ◌∙◌}
 use Rattle.league.specs.Sets.{has}
 use Rattle.fixtures.specs.Games.{IsPair}
 use Rattle.fixtures.proofs.ForCallers.{exchanged_first, exchanged_second, stays_among_closed}
-use Rattle.tours.proofs.runs_and_repeats.RunsDelta.{part_of_two, teams_delta, exchanged_row, first_turned, second_turned}
+use Rattle.tours.proofs.runs_and_repeats.RunsDelta.{part_of_two, teams_delta, exchanged_row, first_flipped, second_flipped}
 use Rattle.tours.proofs.runs_delta.runs_of_teams.Goals as goal
 
 pub returns-clause-balance : goal.returns-clause-balance
@@ -20,14 +20,14 @@ returns-clause-balance c =
           (row c.args.i c.args.j _ _ _ c.requires.i (exchanged_first c.args.i c.args.j) c.home_rounds-of_i.ensures.members
           c.home_rounds-of_j.ensures.members
           (λ r. c.symmetric_difference-new_i.ensures.members r ∙
-          first_turned (has c.home_rounds-of_i.result r) (has c.home_rounds-of_j.result r) (has c.args.among r) _ _
-          (c.intersection-turned.ensures.members r) (c.symmetric_difference.ensures.members r))),
+          first_flipped (has c.home_rounds-of_i.result r) (has c.home_rounds-of_j.result r) (has c.args.among r) _ _
+          (c.intersection-flipped.ensures.members r) (c.symmetric_difference.ensures.members r))),
       c.runs_in-3.ensures.value _ c.args.j number
           (row c.args.j c.args.i _ _ _ c.requires.j (exchanged_second c.args.i c.args.j) c.home_rounds-of_j.ensures.members
           c.home_rounds-of_i.ensures.members
           (λ r. c.symmetric_difference-new_j.ensures.members r ∙
-          second_turned (has c.home_rounds-of_i.result r) (has c.home_rounds-of_j.result r) (has c.args.among r) _ _
-          (c.intersection-turned.ensures.members r) (c.symmetric_difference.ensures.members r))),
+          second_flipped (has c.home_rounds-of_i.result r) (has c.home_rounds-of_j.result r) (has c.args.among r) _ _
+          (c.intersection-flipped.ensures.members r) (c.symmetric_difference.ensures.members r))),
       c.at_most-at_most.ensures.value,
     )
     (teams_delta g rr c.args.i c.args.j p (has c.args.among) stays c.args.league.now.at_most)

@@ -7,6 +7,6 @@ returns-in-Some-clause-below c =
     omega (
       arith,
       c.in-Some.ensures.value c.args.schedule.now c.requires.kept,
-      part_le c.args.schedule.now c.args.scope.now.main.teams c.args.scope.now.main.rounds c.args.scope.now.turning c.args.rule.now.body,
+      part_le c.args.schedule.now c.args.scope.now.main.teams c.args.scope.now.main.rounds c.args.scope.now.flipping c.args.rule.now.body,
       deviation_below c.args.schedule.now c.args.rule.now.body (omega (arith, c.teams.ensures.number, c.teams.ensures.most)) c.requires.body,
     )

@@ -1,6 +1,6 @@
 use Rattle.std.proofs.Common.{◌<◌, arith}
 use Rattle.league.proofs.ForCallers.{lowest_below}
-use Rattle.robinx.proofs.rows.HomeTables.{followed_none, followed_more, followed_all, row_to_turn}
+use Rattle.robinx.proofs.rows.HomeTables.{followed_none, followed_more, followed_all, row_to_flip}
 use Rattle.robinx.proofs.home_table.HomeTable.follow.Goals as goal
 
 pub loop-team-init : goal.loop-team-init
@@ -24,10 +24,10 @@ bounds-self-place-in-loop-team c =
     let in_games : c.in-Some.team < c.args.schedule.now.teams = lowest_below _ _ _ _ c.loop-team.invariant.below c.in-Some.ensures.steps in
     omega (arith, in_games, c.requires.round_robin.most, c.from-place.ensures)
 
-pub turn-requires-clause-row : goal.turn-requires-clause-row
-turn-requires-clause-row c =
+pub flip-requires-clause-row : goal.flip-requires-clause-row
+flip-requires-clause-row c =
     let in_games : c.in-Some.team < c.args.schedule.now.teams = lowest_below _ _ _ _ c.loop-team.invariant.below c.in-Some.ensures.steps in
-    row_to_turn _ c.in-Some.team c.from-place.result c.index-self-place.result _ _ c.loop-team.invariant.is c.from-place.ensures
+    row_to_flip _ c.in-Some.team c.from-place.result c.index-self-place.result _ _ c.loop-team.invariant.is c.from-place.ensures
     (omega (arith, in_games, c.requires.round_robin.most)) c.symmetric_difference-changed.ensures.members
 
 pub listed-in-loop-team : goal.listed-in-loop-team
@@ -44,7 +44,7 @@ pub loop-team-preserved : goal.loop-team-preserved
 loop-team-preserved c =
     followed_more c.args.schedule.now _ _ _ _ _ c.from-place.result _ _ c.requires.round_robin.most c.loop-team.invariant
     c.in-Some.ensures.steps c.from-place.ensures (lowest_below _ _ _ _ c.loop-team.invariant.below c.in-Some.ensures.steps)
-    c.home_rounds-homes.ensures.members c.turn.ensures
+    c.home_rounds-homes.ensures.members c.flip.ensures
 
 pub returns-clause-rows : goal.returns-clause-rows
 returns-clause-rows c = followed_all _ _ _ _ c.in-None.ensures.steps.0 c.loop-team.invariant

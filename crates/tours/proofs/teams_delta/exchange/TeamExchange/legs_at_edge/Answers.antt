@@ -1,7 +1,7 @@
 use Rattle.std.proofs.Common.{◌≡◌, ◌+◌, true, false, not, sym, ◌∙◌, ap}
 use Rattle.league.specs.Sets.{has}
 use Rattle.fixtures.specs.Games.{round_count}
-use Rattle.tours.proofs.exchanged_legs.TurnedLegs.{in_below}
+use Rattle.tours.proofs.exchanged_legs.FlippedLegs.{in_below}
 use Rattle.tours.proofs.exchanged_legs.EdgeLegs.{delta_at_first, delta_at_second, now_first, now_second}
 use Rattle.tours.proofs.teams_delta.exchange.TeamExchange.legs_at_edge.Goals as goal
 

@@ -4,7 +4,7 @@ use Rattle.league.proofs.ForCallers.{has_beyond}
 use Rattle.fixtures.specs.Games.{round_count}
 use Rattle.tours.proofs.stops.SetsInSeason.{has_two}
 use Rattle.tours.proofs.exchanged_legs.TeamsDelta.{of_first, of_second}
-use Rattle.tours.proofs.exchanged_legs.TurnedLegs.{is_turn}
+use Rattle.tours.proofs.exchanged_legs.FlippedLegs.{is_flip}
 use Rattle.tours.proofs.exchanged_legs.EdgeLegs.{one_of_two}
 use Rattle.tours.proofs.exchanged_legs.OwnLegs.{own_balance, has_both}
 use Rattle.tours.proofs.teams_delta.exchange.TeamExchange.own_legs.Goals as goal
@@ -17,19 +17,19 @@ legs_at_edges-at_edges-requires-clause-edges c =
     (c.starts_meeting-either.ensures.members s ∙ has_two x.rounds s)
     (c.starts_within-inner.ensures.members s ∙ has_both x.rounds s)) ∙ is)
 
-pub turned_legs-of_i-requires-clause-turning : goal.turned_legs-of_i-requires-clause-turning
-turned_legs-of_i-requires-clause-turning c =
+pub flipped_legs-of_i-requires-clause-flipping : goal.flipped_legs-of_i-requires-clause-flipping
+flipped_legs-of_i-requires-clause-flipping c =
     let x = c.args.self.now in
-    is_turn x.schedule.now c.teams-2.ensures.round_robin x.i x.j x.i c.starts_within-inner.result c.turns-turns_i.result
+    is_flip x.schedule.now c.teams-2.ensures.round_robin x.i x.j x.i c.starts_within-inner.result c.flips-flips_i.result
     x.rounds (of_first x.i x.j) x.first x.first_out x.second_out x.below
-    (λ s. c.starts_within-inner.ensures.members s ∙ has_both x.rounds s) c.turns-turns_i.ensures.members
+    (λ s. c.starts_within-inner.ensures.members s ∙ has_both x.rounds s) c.flips-flips_i.ensures.members
 
-pub turned_legs-of_j-requires-clause-turning : goal.turned_legs-of_j-requires-clause-turning
-turned_legs-of_j-requires-clause-turning c =
+pub flipped_legs-of_j-requires-clause-flipping : goal.flipped_legs-of_j-requires-clause-flipping
+flipped_legs-of_j-requires-clause-flipping c =
     let x = c.args.self.now in
-    is_turn x.schedule.now c.teams-2.ensures.round_robin x.i x.j x.j c.starts_within-inner.result c.turns-turns_j.result
+    is_flip x.schedule.now c.teams-2.ensures.round_robin x.i x.j x.j c.starts_within-inner.result c.flips-flips_j.result
     x.rounds (of_second x.i x.j) x.second x.first_out x.second_out x.below
-    (λ s. c.starts_within-inner.ensures.members s ∙ has_both x.rounds s) c.turns-turns_j.ensures.members
+    (λ s. c.starts_within-inner.ensures.members s ∙ has_both x.rounds s) c.flips-flips_j.ensures.members
 
 pub returns-clause-balance : goal.returns-clause-balance
 returns-clause-balance c =
@@ -44,14 +44,14 @@ returns-clause-balance c =
       c.first_legs-first.ensures.after,
       c.legs_at_edges-at_edges.ensures.before,
       c.legs_at_edges-at_edges.ensures.after,
-      c.turned_legs-of_i.ensures.before,
-      c.turned_legs-of_i.ensures.after,
-      c.turned_legs-of_j.ensures.before,
-      c.turned_legs-of_j.ensures.after,
+      c.flipped_legs-of_i.ensures.before,
+      c.flipped_legs-of_i.ensures.after,
+      c.flipped_legs-of_j.ensures.before,
+      c.flipped_legs-of_j.ensures.after,
     )
     (own_balance x.league.now c.teams.ensures.limits.table.diagonal x.schedule.now c.teams-2.ensures.round_robin x.i x.j
     (record { home_in = x.first; away_in = x.second; distinct = x.distinct }) (has x.rounds) x.first_out x.second_out beyond
-    c.difference-edges.result c.starts_within-inner.result c.turns-turns_j.result c.turns-turns_i.result some is_inner
+    c.difference-edges.result c.starts_within-inner.result c.flips-flips_j.result c.flips-flips_i.result some is_inner
     (λ s. c.difference-edges.ensures.members s ∙ ap₂ (λ a b. a && not b)
     (c.starts_meeting-either.ensures.members s ∙ has_two x.rounds s) (is_inner s))
-    c.turns-turns_j.ensures.members c.turns-turns_i.ensures.members)
+    c.flips-flips_j.ensures.members c.flips-flips_i.ensures.members)

@@ -1,4 +1,4 @@
--- The legs of a team that turns between home and away: one of the two places is its own home.
+-- The legs of a team that flips between home and away: one of the two places is its own home.
 use Rattle.std.proofs.Common.{◌≡◌, ◌≢◌, ℕ, ◌+◌, ◌<◌, Bool, true, false, not, ◌&&◌, inl, inr, get_or, refl, sym, ◌∙◌, ap, ap₂, arith}
 use Rattle.std.specs.Prelude.{◌==◌, if◌then◌else◌}
 use Rattle.std.specs.Bool.{beq}
@@ -9,9 +9,9 @@ use Rattle.league.proofs.ForCallers.{has_beyond}
 use Rattle.fixtures.specs.Games.{Games, round_of, round_count, cell, place, is_home, IsDoubleRoundRobin}
 use Rattle.fixtures.specs.Edits.{exchanged}
 use Rattle.fixtures.specs.within.Edits.{is_either}
-use Rattle.fixtures.specs.Changes.{turns}
+use Rattle.fixtures.specs.Changes.{flips}
 use Rattle.tours.specs.Tours.{tour, leg}
-use Rattle.tours.specs.within.Delta.{leg_turned, AreTurns, IsTurn}
+use Rattle.tours.specs.within.Delta.{leg_flipped, AreFlips, IsFlip}
 use Rattle.tours.proofs.stops.Stops.{tour_at_round}
 use Rattle.tours.proofs.meetings.Opponents.{opponent_in, IsPairing-opponents}
 use Rattle.tours.proofs.exchanged_legs.TeamsDelta.{unmoved, meets_neither}
@@ -22,52 +22,52 @@ module _ (l : LeagueData) (symmetric : (a b : ℕ) → distance l a b ≡ distan
       distance l (f t)
       (if (if home then t else o) == t then (if home' then t else o') else (if home then t else o)) ≡
       distance l (f (if home then t else o)) (f (if home' then t else o'))
-  by_sides f t o o' true true turning apart stays stays' = absurd (false≢true turning)
-  by_sides f t o o' true false turning apart stays stays' =
+  by_sides f t o o' true true flipping apart stays stays' = absurd (false≢true flipping)
+  by_sides f t o o' true false flipping apart stays stays' =
       ap (distance l (f t)) (cond-true (t == t) o' t (eq-eqb t t refl) ∙ sym stays')
-  by_sides f t o o' false true turning apart stays stays' =
+  by_sides f t o o' false true flipping apart stays stays' =
       ap (distance l (f t)) (cond-false (o == t) t o (ne_eqb o t apart) ∙ sym stays) ∙ symmetric (f t) (f o)
-  by_sides f t o o' false false turning apart stays stays' = absurd (false≢true turning)
+  by_sides f t o o' false false flipping apart stays stays' = absurd (false≢true flipping)
 
-  module _ (g : Games) (rr : IsDoubleRoundRobin g) (i j t s : ℕ) (in_t : t < g.teams) (turn : IsTurn g i j t s)
+  module _ (g : Games) (rr : IsDoubleRoundRobin g) (i j t s : ℕ) (in_t : t < g.teams) (flip : IsFlip g i j t s)
       (from to away : ℕ) (from_is : from ≡ get_or (tour g t) (s + 1) 0) (to_is : to ≡ get_or (tour g t) (s + 2) 0)
       (away_is : away ≡ (if from == t then to else from)) where
     two_on : s + 2 ≡ s + 1 + 1
     two_on = omega arith
 
     in_s : s < round_count g.teams
-    in_s = omega (arith, turn.next)
+    in_s = omega (arith, flip.next)
 
     here : from ≡ place g t s
     here = from_is ∙ tour_at_round g t s in_s
 
     there : to ≡ place g t (s + 1)
-    there = to_is ∙ ap (λ k. get_or (tour g t) k 0) two_on ∙ tour_at_round g t (s + 1) turn.next
+    there = to_is ∙ ap (λ k. get_or (tour g t) k 0) two_on ∙ tour_at_round g t (s + 1) flip.next
 
-    way_turned : (f : ℕ → ℕ) → f (opponent_in g s t) ≡ opponent_in g s t →
+    way_flipped : (f : ℕ → ℕ) → f (opponent_in g s t) ≡ opponent_in g s t →
         f (opponent_in g (s + 1) t) ≡ opponent_in g (s + 1) t →
         distance l (f t) away ≡ distance l (f (place g t s)) (f (place g t (s + 1)))
-    unfolding place is_home turns
-    way_turned f stays stays' =
+    unfolding place is_home flips
+    way_flipped f stays stays' =
         ap (distance l (f t)) (away_is ∙ ap₂ (λ x y. if x == t then y else x) here there) ∙
-        by_sides f t (opponent_in g s t) (opponent_in g (s + 1) t) (cell g t s).home (cell g t (s + 1)).home turn.turning
+        by_sides f t (opponent_in g s t) (opponent_in g (s + 1) t) (cell g t s).home (cell g t (s + 1)).home flip.flipping
         ((IsPairing-opponents g rr s in_s).apart t in_t) stays stays'
 
-    pub turned_now : distance l t away ≡ leg l g t (s + 1)
+    pub flipped_now : distance l t away ≡ leg l g t (s + 1)
     unfolding leg
-    turned_now =
-        way_turned (λ x. x) refl refl ∙
-        sym (ap₂ (distance l) (tour_at_round g t s in_s) (tour_at_round g t (s + 1) turn.next))
+    flipped_now =
+        way_flipped (λ x. x) refl refl ∙
+        sym (ap₂ (distance l) (tour_at_round g t s in_s) (tour_at_round g t (s + 1) flip.next))
 
-    pub turned_delta : (other : ℕ) → other ≡ exchanged i j t → distance l other away ≡ leg_turned l g i j t (s + 1)
-    turned_delta other other_is =
+    pub flipped_delta : (other : ℕ) → other ≡ exchanged i j t → distance l other away ≡ leg_flipped l g i j t (s + 1)
+    flipped_delta other other_is =
         ap (λ x. distance l x away) other_is ∙
-        way_turned (exchanged i j) (unmoved i j (opponent_in g s t) turn.here)
-        (unmoved i j (opponent_in g (s + 1) t) turn.there) ∙
+        way_flipped (exchanged i j) (unmoved i j (opponent_in g s t) flip.here)
+        (unmoved i j (opponent_in g (s + 1) t) flip.there) ∙
         sym (ap₂ (λ x y. distance l (exchanged i j x) (exchanged i j y)) (tour_at_round g t s in_s)
-        (tour_at_round g t (s + 1) turn.next))
+        (tour_at_round g t (s + 1) flip.next))
 
--- the turns of a walk
+-- the flips of a walk
 
 pub in_below : (n set k : ℕ) → IsBelow n set → has set k ≡ true → k < n
 in_below n set k below is = elim (cases_lt k n) [
@@ -75,18 +75,18 @@ in_below n set k below is = elim (cases_lt k n) [
   | inr beyond ↦ absurd (true≢false (sym is ∙ has_beyond n set k below (omega arith)))
 ]
 
-pub is_turn : (g : Games) (rr : IsDoubleRoundRobin g) (i j t inner set rounds : ℕ) → is_either i j t ≡ true → t < g.teams →
+pub is_flip : (g : Games) (rr : IsDoubleRoundRobin g) (i j t inner set rounds : ℕ) → is_either i j t ≡ true → t < g.teams →
     has rounds (round_of g i j) ≡ false → has rounds (round_of g j i) ≡ false → IsBelow (round_count g.teams) rounds →
-    ((s : ℕ) → has inner s ≡ (has rounds s && has rounds (s + 1))) → AreTurns g inner t set → (s : ℕ) →
-    has set s ≡ true → IsTurn g i j t s
-is_turn g rr i j t inner set rounds of_t in_t first_out second_out below is_inner are s is = elim (cases_Bool (has inner s)) [
+    ((s : ℕ) → has inner s ≡ (has rounds s && has rounds (s + 1))) → AreFlips g inner t set → (s : ℕ) →
+    has set s ≡ true → IsFlip g i j t s
+is_flip g rr i j t inner set rounds of_t in_t first_out second_out below is_inner are s is = elim (cases_Bool (has inner s)) [
   | inr out ↦ absurd (true≢false (sym is ∙ are.inside s out))
   | inl both ↦
       let parts = and_parts (has rounds s) (has rounds (s + 1)) (sym (is_inner s) ∙ both) in
       let in_next : s + 1 < round_count g.teams = in_below (round_count g.teams) rounds (s + 1) below parts.1 in
       record {
         next = in_next;
-        turning = sym (are.turning s in_next both) ∙ is;
+        flipping = sym (are.flipping s in_next both) ∙ is;
         here = meets_neither g rr i j (has rounds) first_out second_out t s of_t in_t (omega arith) parts.0;
         there = meets_neither g rr i j (has rounds) first_out second_out t (s + 1) of_t in_t in_next parts.1;
       }

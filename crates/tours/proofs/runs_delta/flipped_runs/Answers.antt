@@ -2,20 +2,20 @@ use Rattle.std.proofs.Common.{◌≡◌, true, false, not, sym, ◌∙◌, ap, a
 use Rattle.std.specs.Prelude.{◌==◌, ◌||◌}
 use Rattle.std.specs.Bool.{beq}
 use Rattle.std.proofs.lemmas.Bool.{cond-true, cond-false}
-use Rattle.fixtures.specs.Changes.{turns}
+use Rattle.fixtures.specs.Changes.{flips}
 use Rattle.fixtures.specs.Games.{is_home}
-use Rattle.tours.proofs.runs_and_repeats.RunsDelta.{turned_row}
-use Rattle.tours.proofs.runs_delta.turned_runs.Goals as goal
-use Rattle.tours.proofs.runs_delta.turned_runs.Goals.{Then-game_at, After-runs_in-2}
+use Rattle.tours.proofs.runs_and_repeats.RunsDelta.{flipped_row}
+use Rattle.tours.proofs.runs_delta.flipped_runs.Goals as goal
+use Rattle.tours.proofs.runs_delta.flipped_runs.Goals.{Then-game_at, After-runs_in-2}
 
-stays : (c : Then-game_at) → turns c.args.schedule.now c.args.k c.args.l c.args.team ≡ false
-unfolding turns is_home
+stays : (c : Then-game_at) → flips c.args.schedule.now c.args.k c.args.l c.args.team ≡ false
+unfolding flips is_home
 stays c =
     ap not (ap₂ (λ a b. beq a.home b.home) (sym c.game_at.ensures.value) (sym c.game_at-2.ensures.value) ∙ c.if-game_at.true)
 
-turning : (c : After-runs_in-2) → turns c.args.schedule.now c.args.k c.args.l c.args.team ≡ true
-unfolding turns is_home
-turning c =
+flipping : (c : After-runs_in-2) → flips c.args.schedule.now c.args.k c.args.l c.args.team ≡ true
+unfolding flips is_home
+flipping c =
     ap not (ap₂ (λ a b. beq a.home b.home) (sym c.game_at.ensures.value) (sym c.game_at-2.ensures.value) ∙ c.if-game_at.false)
 
 pub returns-then-game_at-clause-before : goal.returns-then-game_at-clause-before
@@ -27,16 +27,16 @@ returns-then-game_at-clause-after c = sym (cond-false _ _ _ (stays c))
 pub returns-clause-before : goal.returns-clause-before
 returns-clause-before c =
     c.runs_in.ensures.value c.args.schedule.now c.args.team (sym c.rounds-rounds.ensures.number) c.home_rounds-home.ensures.members ∙
-    sym (cond-true _ _ _ (turning c))
+    sym (cond-true _ _ _ (flipping c))
 
 pub returns-clause-after : goal.returns-clause-after
 returns-clause-after c =
     c.runs_in-2.ensures.value _ c.args.team (sym c.rounds-rounds.ensures.number)
-    (turned_row c.args.schedule.now c.args.team c.args.k c.args.l c.home_rounds-home.result c.with-2.result
-    c.symmetric_difference-turned.result
+    (flipped_row c.args.schedule.now c.args.team c.args.k c.args.l c.home_rounds-home.result c.with-2.result
+    c.symmetric_difference-flipped.result
     c.requires.round_robin (record { home_in = c.requires.k; away_in = c.requires.l; distinct = c.requires.distinct }) c.requires.team
-    c.home_rounds-home.ensures.members (turning c)
+    c.home_rounds-home.ensures.members (flipping c)
     (λ r. c.with-2.ensures.members r ∙ ap (λ b. r == c.args.l || b) (c.with.ensures.members r ∙
     ap (λ b. r == c.args.k || b) (c.empty.ensures.members r)))
-    c.symmetric_difference-turned.ensures.members) ∙
-    sym (cond-true _ _ _ (turning c))
+    c.symmetric_difference-flipped.ensures.members) ∙
+    sym (cond-true _ _ _ (flipping c))
