@@ -9,7 +9,7 @@ pub use Rattle.sets.proofs.Sums.{any_below_fails, any_below_same, if_le}
 pub use Rattle.sets.proofs.Bits.{has_beyond, has_all_numbers, has_both, has_with_number, le-with_number, with_number-grows}
 pub use Rattle.sets.proofs.WalkedSums.{IsSumWithout, sum_without_none, sum_without_more, sum_without_all, sum_where_without}
 pub use Rattle.sets.proofs.WalkedSums.{lowest_below, lowest_gone, others_kept, has_empty}
-pub use Rattle.sets.proofs.PairSets.{has_pair_beyond, has_no_pairs, has_with_pair, same_sets, same_pairs}
+pub use Rattle.sets.proofs.PairSets.{has_no_pairs, has_with_pair, same_sets}
 
 -- what a loop over the numbers below n begins with, and what a step adds
 pub ruleset sums = (sum_below_none, sum_below_more)

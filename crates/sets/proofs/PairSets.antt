@@ -1,5 +1,5 @@
 -- A set of pairs of teams as the list of its rows: for each first team the set of the second ones.
-use Rattle.std.proofs.Common.{◌≡◌, ◌≢◌, ℕ, ◌<◌, ◌≤◌, ◌&&◌, ◌||◌, ◌==◌, not, Bool, true, false, List, length}
+use Rattle.std.proofs.Common.{◌≡◌, ◌≢◌, ℕ, ◌<◌, ◌&&◌, ◌||◌, ◌==◌, not, Bool, true, false, List, length}
 use Rattle.std.proofs.Common.{slice_set, refl, sym, ◌∙◌, ap, inl, inr, arith}
 use Rattle.std.proofs.lemmas.Bool.{cases_eq, cases_lt, eq-eqb, ne_eqb, eqb-true, eqb-false, false≢true}
 use Rattle.std.proofs.lemmas.List.{get_or_past, get_or-replicate, get_or-set_same, get_or-set_other, length-replicate}
@@ -31,10 +31,6 @@ same_sets set other same =
 
 -- the rows
 
-pub has_pair_beyond : (pairs : List ℕ) (f s : ℕ) → length pairs ≤ f → has_pair pairs f s ≡ false
-unfolding has_pair
-has_pair_beyond pairs f s beyond = ap (λ row. has row s) (get_or_past pairs f 0 beyond) ∙ has_empty s
-
 pub has_no_pairs : (f s : ℕ) → has_pair no_pairs f s ≡ false
 unfolding has_pair
 has_no_pairs f s = elim (cases_lt f max_teams) [
@@ -42,13 +38,6 @@ has_no_pairs f s = elim (cases_lt f max_teams) [
   | inr beyond ↦
       ap (λ row. has row s) (get_or_past no_pairs f 0 (rw (length-replicate {A = ℕ} max_teams 0) beyond)) ∙ has_empty s
 ]
-
--- sets of pairs with the same members are the same
-pub same_pairs : (pairs other : List ℕ) → length pairs ≡ length other → ((f s : ℕ) → has_pair pairs f s ≡ has_pair other f s)
-    → pairs ≡ other
-unfolding has_pair
-same_pairs pairs other sizes same =
-    same_number_lists pairs other sizes (λ f _. same_sets (seconds_of pairs f) (seconds_of other f) (same f))
 
 -- what is read once the row of a first team is written
 
