@@ -55,13 +55,18 @@ unfolding rules_part sum_over_rules
 rules_part_le penalty grows rules main sides g =
     sum_below_le_each (length rules) _ _ (λ i under. rule_part_le penalty grows main sides g (slice_get rules i))
 
-hard_le : (l : LeagueData) (scope : Scope) (g : Games) → (penalties_part l scope g).hard + games_cost l g ≤ (cost_of l g).hard
+hard_le : (l : LeagueData) (scope : Scope) (g : Games) →
+    halves_part l scope g + (penalties_part l scope g).hard + games_cost l g ≤ (cost_of l g).hard
 unfolding cost_of
 hard_le l scope g = omega (
   arith,
   rules_part_le hard_penalty hard_grows l.rules scope.main scope.flipping g,
   where_le l.phased _ _ (unphased_part_le g (has scope.main.teams)),
 )
+
+of_rules_le : (l : LeagueData) (scope : Scope) (g : Games) → (penalties_part l scope g).hard ≤ (cost_of l g).of_rules
+unfolding cost_of
+of_rules_le l scope g = rules_part_le hard_penalty hard_grows l.rules scope.main scope.flipping g
 
 soft_le : (l : LeagueData) (scope : Scope) (g : Games) → (penalties_part l scope g).soft + near_cost l g ≤ (cost_of l g).soft
 unfolding cost_of
@@ -79,8 +84,11 @@ soft_nothing (Soft weight) = omega arith
 
 -- what is left of a predicted cost without penalties
 module _ (l : LeagueData) (scope : Scope) (g : Games) (exchange : Exchange) (predicted : Cost) (is : IsPredicted l g exchange predicted) where
-  pub hard_fits : (penalties_part l scope g).hard ≤ predicted.hard
+  pub hard_fits : halves_part l scope g + (penalties_part l scope g).hard ≤ predicted.hard
   hard_fits = omega (arith, is.hard, hard_le l scope g)
+
+  pub of_rules_fits : (penalties_part l scope g).hard ≤ predicted.of_rules
+  of_rules_fits = omega (arith, is.of_rules, of_rules_le l scope g)
 
   pub soft_fits : (penalties_part l scope g).soft ≤ predicted.soft
   soft_fits = omega (arith, is.soft, soft_le l scope g)

@@ -30,11 +30,12 @@ use Rattle.robinx.specs.Parts.{deviation_part}
 use Rattle.robinx.proofs.ForCallers.{deviation_balance}
 use Rattle.costs.specs.Costs.{hard_penalty, soft_penalty, penalty_of, sum_over_rules, where_phased, cost_of, score_by, score_of}
 use Rattle.costs.specs.Costs.{near_cost, score_limit, IsCostWithin}
-use Rattle.costs.specs.within.CostParts.{games_cost, rule_part, rules_part, penalties_part, with_penalties, IsRest, IsScope, IsPredicted}
+use Rattle.costs.specs.within.CostParts.{games_cost, halves_part, rule_part, rules_part, penalties_part, with_halves, with_penalties, IsRest, IsScope, IsPredicted}
 use Rattle.costs.specs.declared.scope.Scope.{Scope}
 use Rattle.costs.specs.declared.cost.Cost.{Cost}
+use Rattle.costs.specs.declared.weights.Weights.{Weights}
 use Rattle.costs.specs.declared.penalties.Penalties.{Penalties}
-use Rattle.costs.proofs.Scores.{cost_travel, exchanged-teams, score_below, score_fits}
+use Rattle.costs.proofs.Scores.{AreWeights, cost_travel, exchanged-teams, score_below, score_fits}
 
 -- what differs
 
@@ -129,8 +130,9 @@ phases_balance l g scope are =
 -- the cost after an exchange is the one before it, with its games after and not before, and with the penalties that the
 -- exchange can change counted after it and not before it
 record Balances (l : LeagueData) (g g' : Games) (scope : Scope) : Type 0 where
-  hard : (cost_of l g').hard + (penalties_part l scope g).hard + games_cost l g ≡
-      (cost_of l g).hard + (penalties_part l scope g').hard + games_cost l g'
+  hard : (cost_of l g').hard + halves_part l scope g + (penalties_part l scope g).hard + games_cost l g ≡
+      (cost_of l g).hard + halves_part l scope g' + (penalties_part l scope g').hard + games_cost l g'
+  of_rules : (cost_of l g').of_rules + (penalties_part l scope g).hard ≡ (cost_of l g).of_rules + (penalties_part l scope g').hard
   soft : (cost_of l g').soft + (penalties_part l scope g).soft + near_cost l g ≡
       (cost_of l g).soft + (penalties_part l scope g').soft + near_cost l g'
 
@@ -139,16 +141,19 @@ penalties_balance : (l : LeagueData) (g : Games) (scope : Scope) → IsLeague l 
 unfolding cost_of
 penalties_balance l g scope is same are = record {
   hard = omega (arith, rules_balance hard_penalty hard_even l g scope is same are, phases_balance l g scope are);
+  of_rules = rules_balance hard_penalty hard_even l g scope is same are;
   soft = omega (arith, rules_balance soft_penalty soft_even l g scope is same are);
 }
 
-pub same_cost : (one other : Cost) → one.travel ≡ other.travel → one.hard ≡ other.hard → one.soft ≡ other.soft → one ≡ other
-same_cost one other travel hard soft = rw (travel, hard, soft) refl
+pub same_cost : (one other : Cost) → one.travel ≡ other.travel → one.hard ≡ other.hard → one.of_rules ≡ other.of_rules →
+    one.soft ≡ other.soft → one ≡ other
+same_cost one other travel hard of_rules soft = rw (travel, hard, of_rules, soft) refl
 
 -- a predicted cost without the penalties that the exchange can change, counted before it
 pub record IsWithout (l : LeagueData) (g : Games) (scope : Scope) (predicted rest : Cost) : Type 0 where
   pub travel_is : rest.travel ≡ predicted.travel
-  pub hard : rest.hard + (penalties_part l scope g).hard ≡ predicted.hard
+  pub hard : rest.hard + halves_part l scope g + (penalties_part l scope g).hard ≡ predicted.hard
+  pub of_rules : rest.of_rules + (penalties_part l scope g).hard ≡ predicted.of_rules
   pub soft : rest.soft + (penalties_part l scope g).soft ≡ predicted.soft
 
 pub rest_after : (l : LeagueData) (g : Games) (scope : Scope) (predicted rest : Cost) → IsLeague l → teams l ≡ g.teams →
@@ -158,6 +163,7 @@ rest_after l g scope predicted rest is same are known without =
     let balance : Balances l g (exchanged_by g scope.attempt.exchange.now) scope = penalties_balance l g scope is same are in
     same_cost _ _ (without.travel_is ∙ known.travel_is ∙ sym (cost_travel l (exchanged_by g scope.attempt.exchange.now)))
     (omega (arith, without.hard, known.hard, balance.hard))
+    (omega (arith, without.of_rules, known.of_rules, balance.of_rules))
     (omega (arith, without.soft, known.soft, balance.soft))
 
 -- a predicted cost where no rule and no half is counted
@@ -171,6 +177,10 @@ unfolding cost_of
 games_alone l g none whole =
     omega (arith, no_rules hard_penalty l g none, ap (λ phased. if phased then unphased g else 0) whole)
 
+no_rules_broken : (l : LeagueData) (g : Games) → length l.rules ≡ 0 → (cost_of l g).of_rules ≡ 0
+unfolding cost_of
+no_rules_broken l g none = no_rules hard_penalty l g none
+
 no_soft : (l : LeagueData) (g : Games) → length l.rules ≡ 0 → (cost_of l g).soft ≡ near_cost l g
 unfolding cost_of
 no_soft l g none = omega (arith, no_rules soft_penalty l g none)
@@ -180,6 +190,7 @@ predicted_whole : (l : LeagueData) (g : Games) (exchange : Exchange) (predicted 
 predicted_whole l g exchange predicted is none whole =
     same_cost predicted (cost_of l (exchanged_by g exchange)) (is.travel_is ∙ sym (cost_travel l (exchanged_by g exchange)))
     (omega (arith, is.hard, games_alone l g none whole, games_alone l (exchanged_by g exchange) none whole))
+    (is.of_rules ∙ no_rules_broken l g none ∙ sym (no_rules_broken l (exchanged_by g exchange) none))
     (omega (arith, is.soft, no_soft l g none, no_soft l (exchanged_by g exchange) none))
 
 pub games_le : (l : LeagueData) (g : Games) → games_cost l g ≤ (cost_of l g).hard
@@ -190,63 +201,63 @@ pub near_le : (l : LeagueData) (g : Games) → near_cost l g ≤ (cost_of l g).s
 unfolding cost_of
 near_le l g = omega arith
 
--- penalties only add to a score
-score_grows : (weight : ℕ) (cost : Cost) (penalties : Penalties) → score_by weight cost ≤ score_by weight (with_penalties cost penalties)
-score_grows weight cost penalties =
-    let weighed : weight * cost.hard ≤ weight * (cost.hard + penalties.hard) = mul-le-mul_left weight (omega arith) in
-    omega (arith, weighed)
+-- a cost of which no number is more scores no more
+pub score_grows : (weights : Weights) (less more : Cost) → less.travel ≤ more.travel → less.hard ≤ more.hard → less.of_rules ≤ more.of_rules →
+    less.soft ≤ more.soft → score_by weights less ≤ score_by weights more
+score_grows weights less more travel hard of_rules soft =
+    omega (arith, travel, soft, mul-le-mul_left weights.breach hard, mul-le-mul_left weights.rule of_rules)
 
 pub score_after : (l : LeagueData) (g : Games) (exchange : Exchange) → IsLeague l → teams l ≡ g.teams →
     score_of l (cost_of l (exchanged_by g exchange)) < score_limit
 score_after l g exchange is same = score_below l (exchanged_by g exchange) is (exchanged-teams g exchange ∙ sym same)
 
-pub score_fits_after : (l : LeagueData) (g : Games) (exchange : Exchange) (weight : ℕ) → IsLeague l → teams l ≡ g.teams → weight < 2 ^ 32 →
-    score_by weight (cost_of l (exchanged_by g exchange)) < 2 ^ 64
-score_fits_after l g exchange weight is same = score_fits l (exchanged_by g exchange) weight is (exchanged-teams g exchange ∙ sym same)
+pub score_fits_after : (l : LeagueData) (g : Games) (exchange : Exchange) (weights : Weights) → IsLeague l → teams l ≡ g.teams → AreWeights weights →
+    score_by weights (cost_of l (exchanged_by g exchange)) < 2 ^ 64
+score_fits_after l g exchange weights is same = score_fits l (exchanged_by g exchange) weights is (exchanged-teams g exchange ∙ sym same)
 
 -- a predicted cost that is the cost after
-pub record IsWhole (l : LeagueData) (weight : ℕ) (after : Games) (predicted : Cost) : Type 0 where
+pub record IsWhole (l : LeagueData) (weights : Weights) (after : Games) (predicted : Cost) : Type 0 where
   pub is : predicted ≡ cost_of l after
-  pub score_is : score_by weight predicted ≡ score_by weight (cost_of l after)
-  pub fits : score_by weight predicted < 2 ^ 64
+  pub score_is : score_by weights predicted ≡ score_by weights (cost_of l after)
+  pub fits : score_by weights predicted < 2 ^ 64
   pub small : score_of l predicted < score_limit
 
-pub predicted_alone : {l : LeagueData} {g : Games} {exchange : Exchange} {predicted : Cost} (weight : ℕ) → weight < 2 ^ 32 → IsPredicted l g exchange predicted →
-    IsLeague l → teams l ≡ g.teams → length l.rules ≡ 0 → l.phased ≡ false → IsWhole l weight (exchanged_by g exchange) predicted
-predicted_alone {l} {g} {exchange} {predicted} weight few known is same none whole =
+pub predicted_alone : {l : LeagueData} {g : Games} {exchange : Exchange} {predicted : Cost} (weights : Weights) → AreWeights weights → IsPredicted l g exchange predicted →
+    IsLeague l → teams l ≡ g.teams → length l.rules ≡ 0 → l.phased ≡ false → IsWhole l weights (exchanged_by g exchange) predicted
+predicted_alone {l} {g} {exchange} {predicted} weights few known is same none whole =
     let cost_is : predicted ≡ cost_of l (exchanged_by g exchange) = predicted_whole l g exchange predicted known none whole in
     record {
       is = cost_is;
-      score_is = ap (score_by weight) cost_is;
-      fits = omega (arith, ap (score_by weight) cost_is, score_fits_after l g exchange weight is same few);
+      score_is = ap (score_by weights) cost_is;
+      fits = omega (arith, ap (score_by weights) cost_is, score_fits_after l g exchange weights is same few);
       small = omega (arith, ap (score_of l) cost_is, score_after l g exchange is same);
     }
 
 -- the travel is no more than the score
-pub travel_scores : (l : LeagueData) (weight : ℕ) (g : Games) → travel l g ≤ score_by weight (cost_of l g)
-travel_scores l weight g = omega (arith, cost_travel l g)
+pub travel_scores : (l : LeagueData) (weights : Weights) (g : Games) → travel l g ≤ score_by weights (cost_of l g)
+travel_scores l weights g = omega (arith, cost_travel l g)
 
 -- nor the travel with some of the runs
-pub least_scores : (l : LeagueData) (weight : ℕ) (g : Games) (runs : ℕ) → runs ≤ runs_over g l.at_most →
-    score_by weight (record { travel = travel l g; hard = runs; soft = 0 }) ≤ score_by weight (cost_of l g)
-least_scores l weight g runs some =
-    let weighed : weight * runs ≤ weight * (cost_of l g).hard =
-    mul-le-mul_left weight (omega (arith, some, games_le l g)) in
-    omega (arith, cost_travel l g, weighed)
+pub least_scores : (l : LeagueData) (weights : Weights) (g : Games) (runs : ℕ) → runs ≤ runs_over g l.at_most →
+    score_by weights (record { travel = travel l g; hard = runs; of_rules = 0; soft = 0 }) ≤ score_by weights (cost_of l g)
+least_scores l weights g runs some =
+    score_grows weights _ (cost_of l g) (omega (arith, cost_travel l g)) (omega (arith, some, games_le l g)) (omega arith) (omega arith)
 
-pub rest_scores : (l : LeagueData) (weight : ℕ) (scope : Scope) (after : Games) (rest : Cost) → IsRest l scope after rest →
-    score_by weight rest ≤ score_by weight (cost_of l after)
-rest_scores l weight scope after rest is =
-    subst (λ cost. score_by weight rest ≤ score_by weight cost) is (score_grows weight rest (penalties_part l scope after))
+pub rest_scores : (l : LeagueData) (weights : Weights) (scope : Scope) (after : Games) (rest : Cost) → IsRest l scope after rest →
+    score_by weights rest ≤ score_by weights (cost_of l after)
+rest_scores l weights scope after rest is =
+    subst (λ cost. score_by weights rest ≤ score_by weights cost) is
+    (score_grows weights rest (with_penalties (with_halves rest (halves_part l scope after)) (penalties_part l scope after)) (omega arith)
+    (omega arith) (omega arith) (omega arith))
 
 -- a cost within a limit is a small one
-pub within_is_small : (l : LeagueData) (weight : ℕ) (g : Games) (limit : ℕ) (cost : Option Cost) → IsCostWithin l weight limit g cost →
+pub within_is_small : (l : LeagueData) (weights : Weights) (g : Games) (limit : ℕ) (cost : Option Cost) → IsCostWithin l weights limit g cost →
     score_of l (cost_of l g) < score_limit → IfSome cost (λ cost. score_of l cost < score_limit)
-within_is_small l weight g limit (Some cost) within below = subst (λ cost. score_of l cost < score_limit) (sym within.0) below
-within_is_small l weight g limit None within below = tt
+within_is_small l weights g limit (Some cost) within below = subst (λ cost. score_of l cost < score_limit) (sym within.0) below
+within_is_small l weights g limit None within below = tt
 
 -- no score is above the greatest limit
-pub within_greatest : (l : LeagueData) (weight : ℕ) (g : Games) (result : Option Cost) → IsCostWithin l weight 18446744073709551615 g result →
-    score_by weight (cost_of l g) < 2 ^ 64 → IsSome result
-within_greatest l weight g (Some cost) within below = search rules
-within_greatest l weight g None within below = absurd (omega (arith, within))
+pub within_greatest : (l : LeagueData) (weights : Weights) (g : Games) (result : Option Cost) → IsCostWithin l weights 18446744073709551615 g result →
+    score_by weights (cost_of l g) < 2 ^ 64 → IsSome result
+within_greatest l weights g (Some cost) within below = search rules
+within_greatest l weights g None within below = absurd (omega (arith, within))

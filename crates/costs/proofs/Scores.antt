@@ -25,6 +25,7 @@ use Rattle.costs.specs.Costs.{hard_penalty, soft_penalty, penalty_of, sum_over_r
 use Rattle.costs.specs.Costs.{near_cost, score_limit, unless_free}
 use Rattle.tours.specs.Moved.{is_moved, moved_from}
 use Rattle.costs.specs.declared.cost.Cost.{Cost}
+use Rattle.costs.specs.declared.weights.Weights.{Weights}
 use Rattle.league.specs.Starts.{start_round}
 use Rattle.robinx.proofs.ForCallers.{deviation_below}
 
@@ -150,6 +151,10 @@ hard_le l g is same forty =
           (λ rule for. omega (arith, hard_penalty_le rule.weight (deviation g rule.body), deviation_of l g rule same forty for)),
     )
 
+pub of_rules_le : (l : LeagueData) (g : Games) → (cost_of l g).of_rules ≤ (cost_of l g).hard
+unfolding cost_of
+of_rules_le l g = omega arith
+
 moved_le : (start : ℕ → ℕ → ℕ) (g : Games) → g.teams ≤ max_teams → moved_from start g ≤ max_teams * max_teams
 unfolding moved_from
 moved_le start g forty =
@@ -189,18 +194,26 @@ score_below l g is same =
       mul-le-mul is.weight_most (hard_le l g is same forty),
     )
 
--- by any weight of 32 bits each score fits 64 bits
-pub score_fits : (l : LeagueData) (g : Games) (weight : ℕ) → IsLeague l → g.teams ≡ teams l → weight < 2 ^ 32 →
-    score_by weight (cost_of l g) < 2 ^ 64
-score_fits l g weight is same few =
+-- weights of 32 bits
+pub record AreWeights (weights : Weights) : Type 0 where
+  pub breach : weights.breach < 2 ^ 32
+  pub rule : weights.rule < 2 ^ 32
+
+-- by such weights each score fits 64 bits
+pub score_fits : (l : LeagueData) (g : Games) (weights : Weights) → IsLeague l → g.teams ≡ teams l → AreWeights weights →
+    score_by weights (cost_of l g) < 2 ^ 64
+score_fits l g weights is same few =
     let forty : g.teams ≤ max_teams = omega (arith, is.table.most) in
-    let limit : weight ≤ 4294967295 = omega arith in
+    let breach : weights.breach ≤ 4294967295 = omega (arith, few.breach) in
+    let rule : weights.rule ≤ 4294967295 = omega (arith, few.rule) in
+    let hard = hard_le l g is same forty in
     omega (
       arith,
       cost_travel l g,
       travel_le l g is forty,
       soft_le l g is same forty,
-      mul-le-mul limit (hard_le l g is same forty),
+      mul-le-mul breach hard,
+      mul-le-mul rule (omega (arith, of_rules_le l g, hard) : (cost_of l g).of_rules ≤ max_rules * deviation_limit + 127960),
     )
 
 pub cost_small : (l : LeagueData) (g : Games) → IsLeague l → teams l ≡ g.teams → IsSmall (cost_of l g)

@@ -13,6 +13,7 @@ use Rattle.tours.specs.Repeats.{repeats}
 use Rattle.tours.specs.Phased.{unphased}
 use Rattle.robinx.specs.Deviations.{deviation}
 use Rattle.costs.specs.declared.cost.Cost.{Cost}
+use Rattle.costs.specs.declared.weights.Weights.{Weights}
 
 -- what a deviation of a rule of this weight adds to hard
 abbrev pub hard_penalty : Weight → ℕ → ℕ
@@ -46,30 +47,35 @@ abbrev pub near_cost : LeagueData → Games → ℕ
 near_cost l g = l.origin.near * moved_games l g
 
 -- travel as it is; hard: runs, repeats unless they are free, the deviations of hard rules, and in a phased league the pairs
--- of teams with both games in one half; soft: the weighted deviations of soft rules, and what leaving the start costs
+-- of teams with both games in one half; of these those of rules; soft: the weighted deviations of soft rules, and what leaving the start costs
 unfoldable pub cost_of : LeagueData → Games → Cost
 cost_of l g = record {
   travel = travel l g;
   hard = runs_over g l.at_most + unless_free l (repeats g) + sum_over_rules hard_penalty l.rules g + where_phased l (unphased g);
+  of_rules = sum_over_rules hard_penalty l.rules g;
   soft = sum_over_rules soft_penalty l.rules g + near_cost l g;
 }
 
--- what is compared if hard limits may be broken, with this weight for each breach of one
-abbrev pub score_by : ℕ → Cost → ℕ
-score_by weight cost = cost.travel + cost.soft + weight * cost.hard
+-- what is compared if hard limits may be broken, with these weights for each breach of one, and for each of a rule beside that
+abbrev pub score_by : Weights → Cost → ℕ
+score_by weights cost = cost.travel + cost.soft + weights.breach * cost.hard + weights.rule * cost.of_rules
 
--- the same by the league's weight
+-- by these all breaches weigh the same
+abbrev pub alike : ℕ → Weights
+alike breach = record { breach = breach; rule = 0 }
+
+-- the score by the league's weight
 abbrev pub score_of : LeagueData → Cost → ℕ
-score_of l cost = score_by l.hard_weight cost
+score_of l cost = cost.travel + cost.soft + l.hard_weight * cost.hard
 
 -- what is compared among schedules that break none
 abbrev pub total_of : Cost → ℕ
 total_of cost = cost.travel + cost.soft
 
--- the cost of the games if their score by this weight is at most this, and none if it is more
-abbrev pub IsCostWithin : LeagueData → ℕ → ℕ → Games → Option Cost → Type 0
-IsCostWithin l weight limit g (Some cost) = (cost ≡ cost_of l g) × (score_by weight cost ≤ limit)
-IsCostWithin l weight limit g None = limit < score_by weight (cost_of l g)
+-- the cost of the games if their score by these weights is at most this, and none if it is more
+abbrev pub IsCostWithin : LeagueData → Weights → ℕ → Games → Option Cost → Type 0
+IsCostWithin l weights limit g (Some cost) = (cost ≡ cost_of l g) × (score_by weights cost ≤ limit)
+IsCostWithin l weights limit g None = limit < score_by weights (cost_of l g)
 
 -- no score of a league's schedules by its own weight reaches this
 abbrev pub score_limit : ℕ

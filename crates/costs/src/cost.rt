@@ -1,5 +1,6 @@
 //! The cost of a schedule.
 
+use crate::weights::Weights;
 use league::League;
 
 /// The cost of a schedule in a league. It is feasible if `hard` is 0.
@@ -10,6 +11,8 @@ pub struct Cost {
     /// The runs, the repeats unless they are free, the deviations of the hard rules and, in a phased league, the pairs of
     /// teams with both games in one half of the season.
     pub hard: u64,
+    /// Of these the deviations of the hard rules.
+    pub of_rules: u64,
     /// The deviations of the soft rules, each times its weight.
     pub soft: u64,
 }
@@ -24,15 +27,15 @@ impl Cost {
         requires { score_of league.now self < 2 ^ 64 }
         ensures { result ≡ score_of league.now self }
     {
-        self.score_by(league.hard_weight())
+        self.score_by(Weights::alike(league.hard_weight()))
     }
 
-    /// The score with this weight for each breach of a hard limit.
-    pub fn score_by(self, weight: u32) -> u64
-        requires { score_by weight self < 2 ^ 64 }
-        ensures { result ≡ score_by weight self }
+    /// The score with these weights for breaches of hard limits.
+    pub fn score_by(self, weights: Weights) -> u64
+        requires { score_by weights self < 2 ^ 64 }
+        ensures { result ≡ score_by weights self }
     {
-        self.total() + u64::from(weight) * self.hard
+        self.total() + u64::from(weights.breach) * self.hard + u64::from(weights.rule) * self.of_rules
     }
 
     /// The number to compare among feasible schedules: travel and soft.

@@ -27,7 +27,7 @@ pub(crate) fn predicted_within(
     requires can_be_made { IsExchange schedule.now attempt.now.exchange.now }
     requires known { attempt.now.known ≡ cost_of league.now schedule.now }
     ensures { MatchOption result
-        (attempt.now.limit < score_by attempt.now.weight (cost_of league.now (exchanged_by schedule.now attempt.now.exchange.now)))
+        (attempt.now.limit < score_by attempt.now.weights (cost_of league.now (exchanged_by schedule.now attempt.now.exchange.now)))
         (λ predicted. IsPredicted league.now schedule.now attempt.now.exchange.now predicted) }
 {
     prove_eq!(league.teams(), schedule.teams());
@@ -41,9 +41,10 @@ pub(crate) fn predicted_within(
     let least = Cost {
         travel,
         hard: runs.after,
+        of_rules: 0,
         soft: 0,
     };
-    if least.score_by(attempt.weight) > limit {
+    if least.score_by(attempt.weights) > limit {
         return None;
     }
     let repeats = repeats_delta(schedule, league, exchange);
@@ -51,6 +52,7 @@ pub(crate) fn predicted_within(
     Some(Cost {
         travel,
         hard: known.hard + runs.after + repeats.after - runs.before - repeats.before,
+        of_rules: known.of_rules,
         soft: known.soft + leaving.after - leaving.before,
     })
 }

@@ -42,6 +42,7 @@ fn rest_of(
     Cost {
         travel: predicted.travel,
         hard: predicted.hard - phases_part(schedule, league, scope.main) - rules.hard,
+        of_rules: predicted.of_rules - rules.hard,
         soft: predicted.soft - rules.soft,
     }
 }
@@ -60,7 +61,7 @@ pub(crate) fn rest_within(
     requires deviations { AreKeptDeviations league.now.rules schedule.now deviations.old }
     requires predicted { IsPredicted league.now schedule.now scope.now.attempt.exchange.now predicted }
     ensures rest { MatchOption result
-        (scope.now.attempt.limit < score_by scope.now.attempt.weight (cost_of league.now (exchanged_by schedule.now scope.now.attempt.exchange.now)))
+        (scope.now.attempt.limit < score_by scope.now.attempt.weights (cost_of league.now (exchanged_by schedule.now scope.now.attempt.exchange.now)))
         (λ rest. IsRest league.now scope.now (exchanged_by schedule.now scope.now.attempt.exchange.now) rest) }
     ensures deviations { AreKeptDeviations league.now.rules schedule.now deviations.new }
     ensures same { IsKeptOf deviations.new deviations.old }
@@ -69,7 +70,7 @@ pub(crate) fn rest_within(
 {
     prove_eq!(league.teams(), schedule.teams());
     let rest = rest_of(schedule, league, deviations, scope, predicted);
-    if rest.score_by(scope.attempt.weight) > scope.attempt.limit {
+    if rest.score_by(scope.attempt.weights) > scope.attempt.limit {
         return None;
     }
     Some(rest)
@@ -91,7 +92,7 @@ pub(crate) fn whole_within(
     requires next_length { length deviations.old.next ≡ max_rules }
     requires rests { deviations.old.is_known ≡ true →
         AreRests league.now.rules scope.now (has scope.now.rules) schedule.now deviations.old.kept deviations.old.next }
-    ensures cost { IsCostWithin league.now scope.now.attempt.weight scope.now.attempt.limit schedule.now result }
+    ensures cost { IsCostWithin league.now scope.now.attempt.weights scope.now.attempt.limit schedule.now result }
     ensures same { IsKeptOf deviations.new deviations.old }
     ensures next_length { length deviations.new.next ≡ max_rules }
     ensures all { IfSome result (λ _. deviations.new.is_known ≡ true →
@@ -104,7 +105,7 @@ pub(crate) fn whole_within(
     };
     let first = with_rules(schedule, league, deviations, scope, scope.first, begun)?;
     let cost = with_rules(schedule, league, deviations, scope, scope.last, first)?;
-    if cost.score_by(scope.attempt.weight) > scope.attempt.limit {
+    if cost.score_by(scope.attempt.weights) > scope.attempt.limit {
         return None;
     }
     Some(cost)

@@ -15,10 +15,12 @@ mod made_exchanges;
 mod penalties;
 mod rule_costs;
 mod scope;
+mod weights;
 mod whole_cost;
 
 pub use attempt::Attempt;
 pub use cost::Cost;
 pub use evaluator::Evaluator;
 pub use made_exchanges::{make_at_cost, make_within};
+pub use weights::Weights;
 pub use whole_cost::{cost_of, counted_repeats};

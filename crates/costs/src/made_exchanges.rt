@@ -12,6 +12,7 @@ use crate::cost_delta::predicted_within;
 use crate::counted::{rest_within, whole_within};
 use crate::evaluator::Evaluator;
 use crate::scope::Scope;
+use crate::weights::Weights;
 use fixtures::{Exchange, Schedule};
 use league::League;
 
@@ -39,13 +40,13 @@ pub fn make_at_cost(
     let attempt = Attempt {
         exchange,
         known,
-        weight: 1,
+        weights: Weights::alike(1),
         limit: u64::MAX,
     };
     make_within(schedule, league, evaluator, &attempt).unwrap()
 }
 
-/// Makes the exchange of an attempt as `make_at_cost` does if the score after by the attempt's weight is at most the greatest allowed, and
+/// Makes the exchange of an attempt as `make_at_cost` does if the score after by the attempt's weights is at most the greatest allowed, and
 /// gives the cost after. Otherwise the schedule is left as it was, and what costs little to count is counted first: travel, runs and repeats,
 /// for which nothing is made, then the rules, and last those that take longest. What is counted is kept in the evaluator. Takes no memory.
 pub fn make_within(
@@ -58,8 +59,8 @@ pub fn make_within(
     requires evaluator { IsEvaluatorAt league.now schedule.old evaluator.old }
     requires can_be_made { IsExchange schedule.old attempt.now.exchange.now }
     requires known { attempt.now.known ≡ cost_of league.now schedule.old }
-    requires weight { 1 ≤ attempt.now.weight }
-    ensures value { IsCostWithin league.now attempt.now.weight attempt.now.limit (exchanged_by schedule.old attempt.now.exchange.now) result }
+    requires weight { 1 ≤ attempt.now.weights.breach }
+    ensures value { IsCostWithin league.now attempt.now.weights attempt.now.limit (exchanged_by schedule.old attempt.now.exchange.now) result }
     ensures schedule { MatchOption result (schedule.new ≡ schedule.old)
         (λ cost. schedule.new ≡ exchanged_by schedule.old attempt.now.exchange.now) }
     ensures again { IsExchange schedule.new attempt.now.exchange.now }
@@ -71,7 +72,7 @@ pub fn make_within(
     let predicted = predicted_within(schedule, league, attempt)?;
     let exchange = attempt.exchange;
     if league.rule_count() == 0 && !league.phased() {
-        if predicted.score_by(attempt.weight) > attempt.limit {
+        if predicted.score_by(attempt.weights) > attempt.limit {
             return None;
         }
         exchange.make(schedule);

@@ -84,17 +84,17 @@ pub(crate) fn with_rules(
     requires before { IsWithin league.now scope.now rules schedule.now before }
     requires kept_length { length deviations.old.kept ≡ max_rules }
     requires next_length { length deviations.old.next ≡ max_rules }
-    ensures cost { MatchOption result (scope.now.attempt.limit < score_by scope.now.attempt.weight (cost_of league.now schedule.now))
+    ensures cost { MatchOption result (scope.now.attempt.limit < score_by scope.now.attempt.weights (cost_of league.now schedule.now))
         (λ counted. counted ≡ with_penalties before (parts_of league.now scope.now rules schedule.now)) }
     ensures same { IsKeptOf deviations.new deviations.old }
     ensures next_length { length deviations.new.next ≡ max_rules }
     ensures whole { IfSome result (λ _. AreMadeWhole league.now.rules scope.now rules schedule.now deviations.old deviations.new) }
 {
     prove_eq!(league.teams(), schedule.teams());
-    let (weight, limit) = (scope.attempt.weight, scope.attempt.limit);
+    let (weights, limit) = (scope.attempt.weights, scope.attempt.limit);
     let mut cost = before;
     for i in rules {
-        if cost.score_by(weight) > limit {
+        if cost.score_by(weights) > limit {
             return None;
         }
         let rule = league.rule(i);
@@ -103,6 +103,7 @@ pub(crate) fn with_rules(
         deviations.next[i] = deviations.rest(i).saturating_add(part as u32);
         let added = Penalties::of_rule(rule.weight, part);
         cost.hard += added.hard;
+        cost.of_rules += added.hard;
         cost.soft += added.soft;
     }
     Some(cost)

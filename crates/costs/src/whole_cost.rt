@@ -32,6 +32,7 @@ pub fn cost_of(schedule: &Schedule, league: &League) -> Cost
     Cost {
         travel,
         hard: runs + counted_repeats(schedule, league) + rules.hard + phases,
+        of_rules: rules.hard,
         soft: rules.soft + near_cost(schedule, league),
     }
 }

@@ -60,31 +60,44 @@ parts_of l scope set g = record {
   soft = sum_where (length l.rules) (has set) (λ i. rule_part soft_penalty scope.main scope.flipping g (slice_get l.rules i));
 }
 
--- of all costs but travel, runs and repeats: of the rules, and in a phased league of the pairs with both games in one half
+-- of the pairs with both games in one half, which count in a phased league
+abbrev pub halves_part : LeagueData → Scope → Games → ℕ
+halves_part l scope g = where_phased l (unphased_part g (has scope.main.teams))
+
+-- of what all rules add
 abbrev pub penalties_part : LeagueData → Scope → Games → Penalties
 penalties_part l scope g = record {
-  hard =
-      where_phased l (unphased_part g (has scope.main.teams)) + rules_part hard_penalty l.rules scope.main scope.flipping g;
+  hard = rules_part hard_penalty l.rules scope.main scope.flipping g;
   soft = rules_part soft_penalty l.rules scope.main scope.flipping g;
 }
 
--- a cost with penalties that it lacks
-abbrev pub with_penalties : Cost → Penalties → Cost
-with_penalties rest penalties =
-    record { travel = rest.travel; hard = rest.hard + penalties.hard; soft = rest.soft + penalties.soft }
+-- a cost with pairs in one half that it lacks
+abbrev pub with_halves : Cost → ℕ → Cost
+with_halves rest halves = record rest { hard = rest.hard + halves }
 
--- with the penalties that the exchange can change, counted after it, this is the cost after it
+-- a cost with penalties of rules that it lacks
+abbrev pub with_penalties : Cost → Penalties → Cost
+with_penalties rest penalties = record {
+  travel = rest.travel;
+  hard = rest.hard + penalties.hard;
+  of_rules = rest.of_rules + penalties.hard;
+  soft = rest.soft + penalties.soft;
+}
+
+-- with the pairs and the penalties that the exchange can change, counted after it, this is the cost after it
 abbrev pub IsRest : LeagueData → Scope → Games → Cost → Type 0
-IsRest l scope after rest = with_penalties rest (penalties_part l scope after) ≡ cost_of l after
+IsRest l scope after rest = with_penalties (with_halves rest (halves_part l scope after)) (penalties_part l scope after) ≡ cost_of l after
 
 -- with what the exchange can alter of the rules of a set, this costs no more than the schedule
 pub record IsWithin (l : LeagueData) (scope : Scope) (set : ℕ) (g : Games) (cost : Cost) : Type 0 where
   pub travel : cost.travel ≡ (cost_of l g).travel
   pub hard : cost.hard + (parts_of l scope set g).hard ≤ (cost_of l g).hard
+  pub of_rules : cost.of_rules + (parts_of l scope set g).hard ≤ (cost_of l g).of_rules
   pub soft : cost.soft + (parts_of l scope set g).soft ≤ (cost_of l g).soft
 
 -- travel, runs, repeats and what leaving the start costs as they are after the exchange, and all else as it is before it
 pub record IsPredicted (l : LeagueData) (g : Games) (exchange : Exchange) (predicted : Cost) : Type 0 where
   pub travel_is : predicted.travel ≡ travel l (exchanged_by g exchange)
   pub hard : predicted.hard + games_cost l g ≡ (cost_of l g).hard + games_cost l (exchanged_by g exchange)
+  pub of_rules : predicted.of_rules ≡ (cost_of l g).of_rules
   pub soft : predicted.soft + near_cost l g ≡ (cost_of l g).soft + near_cost l (exchanged_by g exchange)

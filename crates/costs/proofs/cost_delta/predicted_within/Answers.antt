@@ -12,7 +12,7 @@ pub returns-then-travel-limit : goal.returns-then-travel-limit
 returns-then-travel-limit c =
     omega (
       arith,
-      travel_scores c.args.league.now c.args.attempt.now.weight (exchanged_by c.args.schedule.now c.args.attempt.now.exchange.now),
+      travel_scores c.args.league.now c.args.attempt.now.weights (exchanged_by c.args.schedule.now c.args.attempt.now.exchange.now),
       c.travel_after-travel.ensures,
       c.if-travel-limit.true,
     )
@@ -21,18 +21,18 @@ pub score_by-requires : goal.score_by-requires
 score_by-requires c =
     omega (
       arith,
-      least_scores c.args.league.now c.args.attempt.now.weight (exchanged_by c.args.schedule.now c.args.attempt.now.exchange.now) c.runs_of-runs.result.after
+      least_scores c.args.league.now c.args.attempt.now.weights (exchanged_by c.args.schedule.now c.args.attempt.now.exchange.now) c.runs_of-runs.result.after
           (omega (arith, c.runs_of-runs.ensures.balance, c.runs_of-runs.ensures.within)),
       c.travel_after-travel.ensures,
-      score_fits_after c.args.league.now c.args.schedule.now c.args.attempt.now.exchange.now c.args.attempt.now.weight
-          c.teams.ensures.limits c.requires.same_size (omega arith),
+      score_fits_after c.args.league.now c.args.schedule.now c.args.attempt.now.exchange.now c.args.attempt.now.weights
+          c.teams.ensures.limits c.requires.same_size (record { breach = omega arith; rule = omega arith }),
     )
 
 pub returns-then-score_by-limit : goal.returns-then-score_by-limit
 returns-then-score_by-limit c =
     omega (
       arith,
-      least_scores c.args.league.now c.args.attempt.now.weight (exchanged_by c.args.schedule.now c.args.attempt.now.exchange.now) c.runs_of-runs.result.after
+      least_scores c.args.league.now c.args.attempt.now.weights (exchanged_by c.args.schedule.now c.args.attempt.now.exchange.now) c.runs_of-runs.result.after
           (omega (arith, c.runs_of-runs.ensures.balance, c.runs_of-runs.ensures.within)),
       c.travel_after-travel.ensures,
       c.score_by.ensures,
@@ -95,6 +95,7 @@ overflow_sub-result-3 c =
 pub returns : goal.returns
 returns c = record {
   travel_is = c.travel_after-travel.ensures;
+  of_rules = ap (λ (cost : Cost). cost.of_rules) c.requires.known;
   hard = omega (
     arith,
     ap (λ (cost : Cost). cost.hard) c.requires.known,

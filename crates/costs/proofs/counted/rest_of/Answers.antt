@@ -1,5 +1,5 @@
 use Rattle.std.proofs.Common.{refl, arith}
-use Rattle.costs.proofs.PartLimits.{hard_fits, soft_fits}
+use Rattle.costs.proofs.PartLimits.{hard_fits, of_rules_fits, soft_fits}
 use Rattle.costs.proofs.Parts.{rest_after}
 use Rattle.costs.proofs.counted.rest_of.Goals as goal
 
@@ -24,6 +24,14 @@ pub overflow_sub-result-3 : goal.overflow_sub-result-3
 overflow_sub-result-3 c =
     omega (
       arith,
+      of_rules_fits c.args.league.now c.args.scope.now c.args.schedule.now _ _ c.requires.predicted,
+      c.parts_of_rules-rules.ensures.hard,
+    )
+
+pub overflow_sub-result-4 : goal.overflow_sub-result-4
+overflow_sub-result-4 c =
+    omega (
+      arith,
       soft_fits c.args.league.now c.args.scope.now c.args.schedule.now _ _ c.requires.predicted,
       c.parts_of_rules-rules.ensures.soft,
     )
@@ -38,6 +46,11 @@ returns-clause-rest c =
         arith,
         hard_fits c.args.league.now c.args.scope.now c.args.schedule.now _ _ c.requires.predicted,
         c.phases_part.ensures.value,
+        c.parts_of_rules-rules.ensures.hard,
+      );
+      of_rules = omega (
+        arith,
+        of_rules_fits c.args.league.now c.args.scope.now c.args.schedule.now _ _ c.requires.predicted,
         c.parts_of_rules-rules.ensures.hard,
       );
       soft = omega (

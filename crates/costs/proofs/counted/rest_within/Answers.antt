@@ -7,8 +7,8 @@ pub score_by-requires : goal.score_by-requires
 score_by-requires c =
     omega (
       arith,
-      rest_scores c.args.league.now c.args.scope.now.attempt.weight c.args.scope.now (exchanged_by c.args.schedule.now c.args.scope.now.attempt.exchange.now)
+      rest_scores c.args.league.now c.args.scope.now.attempt.weights c.args.scope.now (exchanged_by c.args.schedule.now c.args.scope.now.attempt.exchange.now)
           c.rest_of-rest.result c.rest_of-rest.ensures.rest,
-      score_fits_after c.args.league.now c.args.schedule.now c.args.scope.now.attempt.exchange.now c.args.scope.now.attempt.weight
-          c.teams.ensures.limits c.requires.same_size (omega arith),
+      score_fits_after c.args.league.now c.args.schedule.now c.args.scope.now.attempt.exchange.now c.args.scope.now.attempt.weights
+          c.teams.ensures.limits c.requires.same_size (record { breach = omega arith; rule = omega arith }),
     )

@@ -4,6 +4,7 @@ use Rattle.costs.proofs.KeptDeviations.{rests_same}
 use Rattle.costs.proofs.Partial.{begun_is, first_within, last_within, whole_is}
 use Rattle.costs.proofs.Scores.{cost_small, score_fits}
 use Rattle.costs.specs.Costs.{score_by}
+use Rattle.costs.specs.within.CostParts.{with_halves}
 use Rattle.costs.specs.declared.cost.Cost.{Cost}
 use Rattle.costs.proofs.counted.whole_within.Goals as goal
 
@@ -22,7 +23,7 @@ with_rules-requires-clause-below c = c.requires.rules.first_below
 pub with_rules-requires-clause-before : goal.with_rules-requires-clause-before
 with_rules-requires-clause-before c =
     let begun = begun_is c.args.league.now c.args.scope.now c.args.schedule.now c.args.rest _ c.teams.ensures.limits c.requires.same_size
-    c.teams-2.ensures.round_robin c.requires.rules c.requires.rest refl (ap (λ n. c.args.rest.hard + n) c.phases_part.ensures.value) refl in
+    c.teams-2.ensures.round_robin c.requires.rules c.requires.rest (ap (with_halves c.args.rest) c.phases_part.ensures.value) in
     first_within c.args.league.now c.args.scope.now c.args.schedule.now _ begun
 
 pub with_rules-requires-2-clause-below : goal.with_rules-requires-2-clause-below
@@ -31,28 +32,29 @@ with_rules-requires-2-clause-below c = c.requires.rules.last_below
 pub with_rules-requires-2-clause-before : goal.with_rules-requires-2-clause-before
 with_rules-requires-2-clause-before c =
     let begun = begun_is c.args.league.now c.args.scope.now c.args.schedule.now c.args.rest _ c.teams.ensures.limits c.requires.same_size
-    c.teams-2.ensures.round_robin c.requires.rules c.requires.rest refl (ap (λ n. c.args.rest.hard + n) c.phases_part.ensures.value) refl in
+    c.teams-2.ensures.round_robin c.requires.rules c.requires.rest (ap (with_halves c.args.rest) c.phases_part.ensures.value) in
     last_within c.args.league.now c.args.scope.now c.args.schedule.now _ begun _ c.in_ok-first.ensures.cost
 
 pub score_by-requires : goal.score_by-requires
 score_by-requires c =
     let begun = begun_is c.args.league.now c.args.scope.now c.args.schedule.now c.args.rest _ c.teams.ensures.limits c.requires.same_size
-    c.teams-2.ensures.round_robin c.requires.rules c.requires.rest refl (ap (λ n. c.args.rest.hard + n) c.phases_part.ensures.value) refl in
+    c.teams-2.ensures.round_robin c.requires.rules c.requires.rest (ap (with_halves c.args.rest) c.phases_part.ensures.value) in
     let whole = whole_is c.args.league.now c.args.scope.now c.args.schedule.now _ begun _ c.in_ok-first.ensures.cost _ c.in_ok-cost.ensures.cost in
     rw whole
-    (score_fits c.args.league.now c.args.schedule.now c.args.scope.now.attempt.weight c.teams.ensures.limits (sym c.requires.same_size) (omega arith))
+    (score_fits c.args.league.now c.args.schedule.now c.args.scope.now.attempt.weights c.teams.ensures.limits (sym c.requires.same_size)
+    (record { breach = omega arith; rule = omega arith }))
 
 pub returns-then-score_by-scope-clause-cost : goal.returns-then-score_by-scope-clause-cost
 returns-then-score_by-scope-clause-cost c =
     let begun = begun_is c.args.league.now c.args.scope.now c.args.schedule.now c.args.rest _ c.teams.ensures.limits c.requires.same_size
-    c.teams-2.ensures.round_robin c.requires.rules c.requires.rest refl (ap (λ n. c.args.rest.hard + n) c.phases_part.ensures.value) refl in
+    c.teams-2.ensures.round_robin c.requires.rules c.requires.rest (ap (with_halves c.args.rest) c.phases_part.ensures.value) in
     let whole = whole_is c.args.league.now c.args.scope.now c.args.schedule.now _ begun _ c.in_ok-first.ensures.cost _ c.in_ok-cost.ensures.cost in
-    omega (arith, ap (score_by c.args.scope.now.attempt.weight) whole, c.score_by.ensures, c.if-score_by-scope.true)
+    omega (arith, ap (score_by c.args.scope.now.attempt.weights) whole, c.score_by.ensures, c.if-score_by-scope.true)
 
 pub returns-clause-cost : goal.returns-clause-cost
 returns-clause-cost c =
     let begun = begun_is c.args.league.now c.args.scope.now c.args.schedule.now c.args.rest _ c.teams.ensures.limits c.requires.same_size
-    c.teams-2.ensures.round_robin c.requires.rules c.requires.rest refl (ap (λ n. c.args.rest.hard + n) c.phases_part.ensures.value) refl in (
+    c.teams-2.ensures.round_robin c.requires.rules c.requires.rest (ap (with_halves c.args.rest) c.phases_part.ensures.value) in (
       whole_is c.args.league.now c.args.scope.now c.args.schedule.now _ begun _ c.in_ok-first.ensures.cost _ c.in_ok-cost.ensures.cost,
       omega (arith, c.score_by.ensures, c.if-score_by-scope.false),
     )

@@ -8,7 +8,7 @@ use Rattle.costs.proofs.rule_costs.with_rules.Given as goal
 abbrev pub invariant-loop-i : goal.invariant-loop-i
 invariant-loop-i l = record {
   counted : IsCountedWithout l.league l.scope l.schedule l.fn.rules l.fn.before l.i-iterator l.cost;
-  no_more : IsNoMore l.league l.scope.attempt.weight l.schedule l.cost;
+  no_more : IsNoMore l.league l.scope.attempt.weights l.schedule l.cost;
   same : IsKeptOf l.deviations l.fn.deviations;
   next_length : length l.deviations.next ≡ max_rules;
   within : (i : ℕ) → has l.i-iterator i ≡ true → has l.fn.rules i ≡ true;

@@ -1,0 +1,22 @@
+//! What breaches of hard limits weigh in a score.
+
+ghost use Rattle.std.specs.Prelude.{◌≡◌};
+ghost use Rattle.costs.specs.Costs.{alike};
+
+/// The weights of breaches of hard limits in a score.
+#[derive(Clone, Copy, Debug, PartialEq, Eq)]
+pub struct Weights {
+    /// Of each breach: at least 1.
+    pub breach: u32,
+    /// What each breach of a rule weighs beside that.
+    pub rule: u32,
+}
+
+impl Weights {
+    /// The weights by which all breaches weigh the same.
+    pub fn alike(breach: u32) -> Weights
+        ensures { result ≡ alike breach }
+    {
+        Weights { breach, rule: 0 }
+    }
+}
