@@ -17,7 +17,7 @@ use Rattle.fixture_board.proofs.ForCallers.{tells_of_trial, least_of_falls}
 use Rattle.annealing.specs.declared.blocks.Block.{Block}
 use Rattle.annealing.specs.declared.blocks.Tally.{Tally}
 use Rattle.annealing.specs.declared.thresholds.TheConstants.{QUANTILES}
-use Rattle.annealing.specs.within.Blocks.{Walked, start_at, trial_drawn, trial_from, walked, with_trial, IsTallied}
+use Rattle.annealing.specs.within.Blocks.{Walked, counts_as_feasible, start_at, trial_drawn, trial_from, walked, with_trial, IsTallied}
 use Rattle.annealing.specs.within.Boards.{least_in}
 use Rattle.annealing.specs.within.Heats.{threshold_of}
 use Rattle.annealing.specs.Legs.{GoesOn, IsFrom}
@@ -28,20 +28,20 @@ use Rattle.annealing.proofs.Rooms.{IsFrom-same}
 
 pub trial_from-by : (draw : Stream → Move × Stream) (block : Block) (first : ℕ × Stream) (word rise : ℕ) (left : Stream) (mv : Move) (rest : Stream) →
     (word, left) ≡ first → rise ≡ threshold_of QUANTILES block.temperature word → (mv, rest) ≡ draw left →
-    (record { mv = mv; weight = block.weight; rise = rise }, rest) ≡ trial_from draw block first
+    (record { mv = mv; weights = block.weights; rise = rise }, rest) ≡ trial_from draw block first
 trial_from-by draw block first word rise left mv rest first_is rise_is drawn =
-    ap (λ (r : ℕ). let t : Trial = record { mv = mv; weight = block.weight; rise = r } in (t, rest)) rise_is ∙
-    ap (λ (d : Move × Stream). let t : Trial = record { mv = d.0; weight = block.weight; rise = threshold_of QUANTILES block.temperature word } in (t, d.1)) drawn ∙
+    ap (λ (r : ℕ). let t : Trial = record { mv = mv; weights = block.weights; rise = r } in (t, rest)) rise_is ∙
+    ap (λ (d : Move × Stream). let t : Trial = record { mv = d.0; weights = block.weights; rise = threshold_of QUANTILES block.temperature word } in (t, d.1)) drawn ∙
     ap (trial_from draw block) first_is
 
 -- what the walk is with one step more
 
 pub walked-more : (league : LeagueData) (room : ℕ) (block : Block) (n : ℕ) (start : Walked) (drawn : Trial × Stream) →
     drawn ≡ trial_drawn block (walked league room block n start).stream →
-    walked league room block (n + 1) start ≡ with_trial league room (walked league room block n start) drawn
+    walked league room block (n + 1) start ≡ with_trial league room block (walked league room block n start) drawn
 unfolding walked
 walked-more league room block n start drawn is =
-    rw add-one (ap (with_trial league room (walked league room block n start)) (sym is))
+    rw add-one (ap (with_trial league room block (walked league room block n start)) (sym is))
 
 -- whether the move was made
 
@@ -105,14 +105,14 @@ left_on board next trial is next_is =
 
 -- the tally of one step more
 
-tallied-more : {tally next_tally : Tally} {stream : Stream} {board next : Book} {w : Walked} (league : LeagueData) (room : ℕ) (cost : Cost)
+tallied-more : {tally next_tally : Tally} {stream : Stream} {board next : Book} {w : Walked} (league : LeagueData) (room : ℕ) (block : Block) (cost : Cost)
     (drawn : Trial × Stream) (made : Bool) → IsTallied tally stream board w → board.league ≡ league → board.room ≡ room →
     cost ≡ cost_at board.league board.history →
-    next_tally.feasible ≡ tally.feasible + from_bool (cost.hard == 0) → next_tally.accepted ≡ tally.accepted + from_bool made →
+    next_tally.feasible ≡ tally.feasible + from_bool (counts_as_feasible block.apart cost) → next_tally.accepted ≡ tally.accepted + from_bool made →
     passes board.league board.room board.history drawn.0 ≡ made →
     next ≡ book board.league board.room (trial_history board.league board.room board.history 0 drawn.0) →
-    IsTallied next_tally drawn.1 next (with_trial league room w drawn)
-tallied-more {tally} {next_tally} {stream} {board} {next} {w} league room cost drawn made was league_is room_is cost_is feasible accepted passed next_is =
+    IsTallied next_tally drawn.1 next (with_trial league room block w drawn)
+tallied-more {tally} {next_tally} {stream} {board} {next} {w} league room block cost drawn made was league_is room_is cost_is feasible accepted passed next_is =
     let cost_then : cost ≡ cost_at league w.history =
     cost_is ∙ ap (λ l. cost_at l board.history) league_is ∙ ap (cost_at league) was.history in
     let passed_then : made ≡ passes league room w.history drawn.0 =
@@ -124,8 +124,8 @@ tallied-more {tally} {next_tally} {stream} {board} {next} {w} league room cost d
     record {
       history = history_then;
       stream_is = refl;
-      feasible = feasible ∙ ap (λ n. n + from_bool (cost.hard == 0)) was.feasible ∙
-          ap (λ (k : Cost). w.feasible + from_bool (k.hard == 0)) cost_then;
+      feasible = feasible ∙ ap (λ n. n + from_bool (counts_as_feasible block.apart cost)) was.feasible ∙
+          ap (λ (k : Cost). w.feasible + from_bool (counts_as_feasible block.apart k)) cost_then;
       accepted = accepted ∙ ap (λ n. n + from_bool made) was.accepted ∙ ap (λ m. w.accepted + from_bool m) passed_then;
     }
 
@@ -164,7 +164,7 @@ flag_small false = omega arith
 pub AreSteps-made : {block : Block} {n : ℕ} {old : Book} {start : Stream} {cost : Cost} {tally : Tally} {stream : Stream} {board : Book} (next : Book)
     (trial : Trial) (left : Stream) (after next_cost : Cost) (flag : ℕ) (next_tally : Tally) → AreSteps block n old start cost tally stream board →
     IsLeague old.league → Contains block.draws.kinds.now (kind_of trial.mv) → (trial, left) ≡ trial_drawn block stream →
-    flag ≡ from_bool (cost.hard == 0) → Some after ≡ trial_cost board.league board.room board.history trial →
+    flag ≡ from_bool (counts_as_feasible block.apart cost) → Some after ≡ trial_cost board.league board.room board.history trial →
     next ≡ book board.league board.room (trial_history board.league board.room board.history 0 trial) → next_cost ≡ after →
     next_tally ≡ record { steps = tally.steps; feasible = tally.feasible + flag; accepted = tally.accepted + 1 } →
     AreSteps block (n + 1) old start next_cost next_tally left next
@@ -174,7 +174,7 @@ AreSteps-made {block} {n} {old} {start} {cost} {tally} {stream} {board} next tri
     made_on board next trial after was.from (subst IsLeague (sym was.from.league) limits) kind is next_is in
     let feasible : next_tally.feasible ≡ tally.feasible + flag = ap (λ (t : Tally). t.feasible) tally_is in
     let accepted : next_tally.accepted ≡ tally.accepted + 1 = ap (λ (t : Tally). t.accepted) tally_is in
-    let small : flag ≤ 1 = rw flag_is (flag_small (cost.hard == 0)) in
+    let small : flag ≤ 1 = rw flag_is (flag_small (counts_as_feasible block.apart cost)) in
     record {
       from = rw accepted made.from;
       never_worse = omega (arith, made.never_worse, was.never_worse);
@@ -183,7 +183,7 @@ AreSteps-made {block} {n} {old} {start} {cost} {tally} {stream} {board} next tri
       feasible = omega (arith, was.feasible);
       accepted = omega (arith, was.accepted);
       walked = rw (walked-more old.league old.room block n (start_at old.history start) (trial, left) (drawn ∙ ap (trial_drawn block) was.walked.stream_is))
-          (tallied-more old.league old.room cost (trial, left) true was.walked was.from.league was.from.room was.cost_is
+          (tallied-more old.league old.room block cost (trial, left) true was.walked was.from.league was.from.room was.cost_is
           (feasible ∙ ap (λ f. tally.feasible + f) flag_is) accepted
           (passed board.league board.room board.history trial after is) next_is);
     }
@@ -192,7 +192,7 @@ AreSteps-made {block} {n} {old} {start} {cost} {tally} {stream} {board} next tri
 pub AreSteps-left : {block : Block} {n : ℕ} {old : Book} {start : Stream} {cost : Cost} {tally : Tally} {stream : Stream} {board : Book} (next : Book)
     (trial : Trial) (left : Stream) (next_cost : Cost) (flag : ℕ) (next_tally : Tally) → AreSteps block n old start cost tally stream board →
     (trial, left) ≡ trial_drawn block stream →
-    flag ≡ from_bool (cost.hard == 0) → None ≡ trial_cost board.league board.room board.history trial →
+    flag ≡ from_bool (counts_as_feasible block.apart cost) → None ≡ trial_cost board.league board.room board.history trial →
     next ≡ book board.league board.room (trial_history board.league board.room board.history 0 trial) → next_cost ≡ cost →
     next_tally ≡ record { steps = tally.steps; feasible = tally.feasible + flag; accepted = tally.accepted } →
     AreSteps block (n + 1) old start next_cost next_tally left next
@@ -200,7 +200,7 @@ AreSteps-left {block} {n} {old} {start} {cost} {tally} {stream} {board} next tri
     let same : next ≡ board = left_on board next trial is next_is in
     let feasible : next_tally.feasible ≡ tally.feasible + flag = ap (λ (t : Tally). t.feasible) tally_is in
     let accepted : next_tally.accepted ≡ tally.accepted = ap (λ (t : Tally). t.accepted) tally_is in
-    let small : flag ≤ 1 = rw flag_is (flag_small (cost.hard == 0)) in
+    let small : flag ≤ 1 = rw flag_is (flag_small (counts_as_feasible block.apart cost)) in
     record {
       from = rw (accepted, same) was.from;
       never_worse = rw same was.never_worse;
@@ -209,7 +209,7 @@ AreSteps-left {block} {n} {old} {start} {cost} {tally} {stream} {board} next tri
       feasible = omega (arith, was.feasible);
       accepted = omega (arith, was.accepted);
       walked = rw (walked-more old.league old.room block n (start_at old.history start) (trial, left) (drawn ∙ ap (trial_drawn block) was.walked.stream_is))
-          (tallied-more old.league old.room cost (trial, left) false was.walked was.from.league was.from.room was.cost_is
+          (tallied-more old.league old.room block cost (trial, left) false was.walked was.from.league was.from.room was.cost_is
           (feasible ∙ ap (λ f. tally.feasible + f) flag_is) (accepted ∙ sym (add-zero tally.accepted))
           (failed board.league board.room board.history trial is) next_is);
     }

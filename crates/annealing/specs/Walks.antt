@@ -9,7 +9,7 @@ use Rattle.league.specs.Starts.{near_at}
 use Rattle.league.specs.Sums.{sum_below}
 use Rattle.moves.specs.declared.moves.Move.{Move}
 use Rattle.fixture_board.specs.declared.change.Entry.{Entry}
-use Rattle.costs.specs.Costs.{total_of}
+use Rattle.costs.specs.Costs.{alike, total_of}
 use Rattle.fixture_board.specs.History.{cost_at}
 use Rattle.fixture_board.specs.Replies.{greatest}
 use Rattle.fixture_board.specs.Trials.{trial_history}
@@ -44,7 +44,7 @@ unless_none change = if change == 0 then [] else change ∷ []
 
 -- the history with a move, if it can be made
 abbrev pub moved_on : LeagueData → List Entry → Move → List Entry
-moved_on league h mv = trial_history league 1000 h 0 (record { mv = mv; weight = 1; rise = greatest })
+moved_on league h mv = trial_history league 1000 h 0 (record { mv = mv; weights = alike 1; rise = greatest })
 
 -- the walk with a move that was drawn, and what the generator answers after it
 abbrev pub walk_with : LeagueData → Walk → Move × Stream → Walk

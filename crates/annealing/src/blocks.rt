@@ -4,11 +4,12 @@ ghost use Rattle.std.specs.Prelude.{◌≡◌, ◌^◌, ◌<◌, ◌≤◌, Cont
 ghost use Rattle.league.specs.League.{IsLeague};
 ghost use Rattle.moves.specs.Moves.{kind_of};
 ghost use Rattle.search.specs.Draws.{CanDraw, stream_of_generator};
-ghost use Rattle.annealing.specs.within.Blocks.{start_at, trial_drawn, walked, IsTallied};
+ghost use Rattle.annealing.specs.within.Blocks.{counts_as_feasible, start_at, trial_drawn, walked, IsTallied};
 ghost use Rattle.annealing.specs.within.Boards.{least_in};
 ghost use Rattle.annealing.specs.Legs.{IsFrom};
 
 use crate::thresholds::threshold;
+use costs::{Cost, Weights};
 use fixture_board::{Board, Trial};
 use rand_core::Rng;
 use rand_pcg::Lcg64Xsh32;
@@ -23,8 +24,10 @@ pub(crate) struct Block<'a> {
     pub(crate) steps: u32,
     /// The kinds and rounds among which each move is drawn.
     pub(crate) draws: Draws<'a>,
-    /// The weight of a breach of a hard limit in the score.
-    pub(crate) weight: u32,
+    /// The weights of breaches of hard limits in the score.
+    pub(crate) weights: Weights,
+    /// Whether breaches of rules weigh apart from the others.
+    pub(crate) apart: bool,
     /// In 1024ths of a distance.
     pub(crate) temperature: u64,
 }
@@ -33,7 +36,7 @@ pub(crate) struct Block<'a> {
 #[derive(Clone, Copy)]
 pub(crate) struct Tally {
     pub(crate) steps: u32,
-    /// At how many of them the schedule was feasible before its move.
+    /// At how many of them the schedule was feasible before its move, or broke no limit but rules if these weigh apart.
     pub(crate) feasible: u32,
     /// How many moves were made.
     pub(crate) accepted: u32,
@@ -44,7 +47,7 @@ pub(crate) struct Tally {
 pub(crate) fn take_steps(board: &mut Board, generator: &mut Lcg64Xsh32, block: Block<'_>) -> Tally
     requires league { IsLeague board.old.league }
     requires draws { CanDraw block.draws.teams block.draws.kinds.now block.draws.rounds.now }
-    requires weight { 1 ≤ block.weight }
+    requires weight { 1 ≤ block.weights.breach }
     requires temperature { block.temperature < 2 ^ 58 }
     ensures walked { IsTallied result (stream_of_generator generator.new) board.new
         (walked board.old.league board.old.room block.entry block.entry.steps
@@ -62,7 +65,7 @@ pub(crate) fn take_steps(board: &mut Board, generator: &mut Lcg64Xsh32, block: B
         accepted: 0,
     };
     for _step in 0..block.steps {
-        tally.feasible += u32::from(cost.is_feasible());
+        tally.feasible += u32::from(counts_as_feasible(block.apart, cost));
         let trial = draw_trial(generator, block);
         match board.try_move(0, trial) {
             Some(after) => {
@@ -75,6 +78,14 @@ pub(crate) fn take_steps(board: &mut Board, generator: &mut Lcg64Xsh32, block: B
     tally
 }
 
+/// Whether a schedule of this cost counts as feasible: if it is, or if rules weigh apart and it breaks nothing else.
+#[inline(always)]
+fn counts_as_feasible(apart: bool, cost: Cost) -> bool
+    ensures { result ≡ counts_as_feasible apart cost }
+{
+    cost.hard == if apart { cost.of_rules } else { 0 }
+}
+
 /// Draws a threshold, and then a move.
 #[inline(always)]
 fn draw_trial(generator: &mut Lcg64Xsh32, block: Block<'_>) -> Trial
@@ -82,10 +93,10 @@ fn draw_trial(generator: &mut Lcg64Xsh32, block: Block<'_>) -> Trial
     requires temperature { block.temperature < 2 ^ 58 }
     ensures drawn { (result, stream_of_generator generator.new) ≡ trial_drawn block.entry (stream_of_generator generator.old) }
     ensures kind { Contains block.entry.draws.kinds.now (kind_of result.mv) }
-    ensures weight { result.weight ≡ block.entry.weight }
+    ensures weights { result.weights ≡ block.entry.weights }
 {
     let rise = threshold(block.temperature, generator.next_u32());
     let mv = draw_among(generator, block.draws);
-    let weight = block.weight;
-    Trial { mv, weight, rise }
+    let weights = block.weights;
+    Trial { mv, weights, rise }
 }

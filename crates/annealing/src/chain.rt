@@ -1,6 +1,7 @@
 //! Chains, and what a leg goes by.
 
 use crate::unit::Unit;
+use costs::Weights;
 use fixture_board::Board;
 use policy::{Leg, LegEnd, WeightCourse};
 
@@ -21,6 +22,24 @@ pub struct Conditions<'a> {
     pub rounds: &'a [u8],
     /// The limits of the weight.
     pub weights: WeightCourse,
+}
+
+impl Conditions<'_> {
+    ghost use Rattle.std.specs.Prelude.{◌≡◌, ◌≤◌};
+    ghost use Rattle.annealing.specs.within.Units.{weights_in};
+
+    /// The weights of breaches of hard limits in the score where the chain has this weight.
+    pub(crate) fn weights_at(&self, weight: u64) -> Weights
+        ensures value { result ≡ weights_in self.now.unit weight self.now.weights.rule }
+        ensures least { 1 ≤ result.breach }
+    {
+        let breach = self.unit.weight(weight);
+        let rule = match self.weights.rule {
+            Some(rule) => self.unit.weight(rule).saturating_sub(breach),
+            None => 0,
+        };
+        Weights { breach, rule }
+    }
 }
 
 /// A leg, and the words that it draws with.

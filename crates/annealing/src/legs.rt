@@ -103,7 +103,8 @@ impl Going {
                 kinds: leg.moves.kinds(),
                 rounds: conditions.rounds,
             },
-            weight: conditions.unit.weight(self.weight),
+            weights: conditions.weights_at(self.weight),
+            apart: conditions.weights.rule.is_some(),
             temperature: conditions.unit.temperature(heat_at(leg, number)),
         };
         let tally = take_steps(board, &mut self.generator, block);

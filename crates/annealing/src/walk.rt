@@ -7,6 +7,7 @@ ghost use Rattle.league.specs.Sums.{sum_below};
 ghost use Rattle.annealing.specs.Walks.{IsUnitOf, changes_of, distance_sum, fraction_of, pair_count, unless_none};
 
 use crate::unit::Unit;
+use costs::Weights;
 use fixture_board::{Board, Trial};
 use league::League;
 use policy::MoveSet;
@@ -63,7 +64,7 @@ fn changes_on_walk(alloc: Global, league: League) -> Result<Vec<u64>, AllocError
     for _step in 0..DRAWS {
         let trial = Trial {
             mv: draw_among(&mut generator, draws),
-            weight: 1,
+            weights: Weights::alike(1),
             rise: u64::MAX,
         };
         board.try_move(0, trial);

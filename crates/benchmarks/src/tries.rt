@@ -9,7 +9,7 @@ ghost use Rattle.search.specs.within.Steps.{IsCopyCost};
 
 use crate::kind::Kind;
 use crate::plan::Plan;
-use costs::{Attempt, Cost, Evaluator, cost_of, make_within};
+use costs::{Attempt, Cost, Evaluator, Weights, cost_of, make_within};
 use fixtures::Schedule;
 use league::League;
 use league::limits::round_count;
@@ -145,7 +145,7 @@ fn try_move(
     let attempt = Attempt {
         exchange: &exchange,
         known: known.cost,
-        weight: league.hard_weight(),
+        weights: Weights::alike(league.hard_weight()),
         limit: known.score.saturating_add(slack),
     };
     let Some(cost) = make_within(schedule, league, evaluator, &attempt) else {

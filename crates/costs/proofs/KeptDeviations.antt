@@ -207,23 +207,10 @@ by_known : (kept : List ℕ) (broken : ℕ) (P : Deviations → Type 0) (known :
 by_known kept broken P true is = is refl
 by_known kept broken P false is = tt
 
-known_by : (kept : List ℕ) (broken : ℕ) (P : Deviations → Type 0) (known : Bool) → IfSome (if_known known kept broken) P → known ≡ true →
-    P (record { each = kept; broken = broken })
-known_by kept broken P true is e = is
-known_by kept broken P false is e = absurd (true≢false (sym e))
-
 -- what is true if there is a value, where there is one
 pub from_some : {A : Type 0} (o : Option A) (P : Type 0) → is_some o ≡ true → IfSome o (λ _. P) → P
 from_some (Some a) P there is = is
 from_some None P there is = absurd (true≢false (sym there))
-
-pub deviations_at : (rules : List Rule) (g : Games) (held : KeptDeviations) → length held.kept ≡ max_rules → length held.next ≡ max_rules →
-    IfSome (if_known held.is_known held.kept held.broken) (AreDeviations rules g) → AreKeptDeviations rules g held
-deviations_at rules g held kept_length next_length is = record {
-  kept_length = kept_length;
-  next_length = next_length;
-  deviations = known_by held.kept held.broken (AreDeviations rules g) held.is_known is;
-}
 
 pub known_at : (rules : List Rule) (g : Games) (held : KeptDeviations) → AreKeptDeviations rules g held →
     IfSome (if_known held.is_known held.kept held.broken) (AreDeviations rules g)

@@ -21,7 +21,8 @@ pub(crate) struct KeptDeviations {
     /// The deviation from each rule, and the rules that are broken, if they are known.
     pub(crate) kept: [u32; MAX_RULES],
     pub(crate) broken: RuleSet,
-    /// Of each broken rule that an exchange can alter, the deviation without the part that it can alter, and then the deviation after it.
+    /// Before an exchange, of each broken rule that it can alter the deviation without the part that it can alter, and after it of each rule
+    /// that it can alter the deviation then.
     pub(crate) next: [u32; MAX_RULES],
     /// How many exchanges are judged before the deviations are counted.
     tries: u8,
@@ -129,22 +130,22 @@ impl KeptDeviations {
         deviation_part(schedule, rule, scope.main, scope.flipping, &mut self.counts)
     }
 
-    /// That part, if the deviations are known and the rule isn't broken, or the exchange can alter all of its deviation or nothing.
+    /// That part, if the deviations are known and the exchange can alter all of this one or nothing.
     fn known_part(&self, rule: &Rule, i: usize, scope: &Scope<'_>) -> Option<u64>
         requires index { i < length self.now.kept }
-        ensures some { is_some result ≡
-            (self.now.is_known && (slice_index self.now.kept i == 0 || is_all_or_none rule.now.body)) }
+        ensures some { is_some result ≡ (self.now.is_known && is_all_or_none rule.now.body) }
         ensures value { (g : Games) → (self.now.is_known ≡ true → slice_index self.now.kept i ≡ deviation g rule.now.body) →
             IfSome result (λ part. part ≡ deviation_part g scope.now.main.teams scope.now.main.rounds scope.now.flipping rule.now.body) }
     {
         if !self.is_known {
             return None;
         }
-        let known = u64::from(self.kept[i]);
-        if known == 0 {
-            return Some(0);
-        }
-        part_of_known(rule, scope.main, scope.flipping, known)
+        part_of_known(
+            rule,
+            scope.main,
+            scope.flipping,
+            u64::from(self.kept[i]),
+        )
     }
 
     /// Keeps the deviations after the exchange of the rules that it can alter, of so many rules.

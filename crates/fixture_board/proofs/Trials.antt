@@ -10,6 +10,7 @@ use Rattle.costs.specs.Costs.{cost_of, score_by}
 use Rattle.fixture_board.specs.declared.change.Change.TheVariants.{Shift}
 use Rattle.fixture_board.specs.declared.change.Entry.{Entry}
 use Rattle.costs.specs.declared.cost.Cost.{Cost}
+use Rattle.costs.specs.declared.weights.Weights.{Weights}
 use Rattle.fixture_board.specs.declared.trial.Trial.{Trial}
 use Rattle.fixture_board.specs.History.{games_of, pins_of, moves_pin, May, IsLegal, cost_at}
 use Rattle.fixture_board.specs.within.Kept.{Kept, FollowsHistory, IsLeft, IsMade}
@@ -19,7 +20,7 @@ use Rattle.fixture_board.proofs.Keeps.{IsGranted-shift, known_cost}
 use Rattle.fixture_board.proofs.Next.{cost_at-callers}
 use Rattle.fixture_board.proofs.OneMore.{IsLegal-more}
 use Rattle.fixture_board.proofs.Script.{granted-shift}
-use Rattle.costs.proofs.ForCallers.{score_fits}
+use Rattle.costs.proofs.ForCallers.{AreWeights, score_fits}
 use Rattle.fixture_board.proofs.Scored.{IsScored-league}
 
 -- what is so of a move that passes
@@ -101,28 +102,28 @@ left_pinned {league} {k} trial kept moves =
 
 pub fails_by_score : {league : LeagueData} {k : Kept} (trial : Trial) (after : Games) → FollowsHistory league k →
     after ≡ moved k.games trial.mv →
-    score_by trial.weight (cost_of league k.games) + trial.rise < score_by trial.weight (cost_of league after) →
+    score_by trial.weights (cost_of league k.games) + trial.rise < score_by trial.weights (cost_of league after) →
     passes league k.room k.history trial ≡ false
 fails_by_score {league} {k} trial after kept is more =
-    let worse : ℕ → Bool = λ score. nat_le score (score_by trial.weight (cost_of league k.games) + trial.rise) in
-    let above : worse (score_by trial.weight (cost_of league after)) ≡ false = lt-leb _ _ more in
+    let worse : ℕ → Bool = λ score. nat_le score (score_by trial.weights (cost_of league k.games) + trial.rise) in
+    let above : worse (score_by trial.weights (cost_of league after)) ≡ false = lt-leb _ _ more in
     told trial kept ∙
     and_right
     (nat_lt (length k.history) k.room && is_ok (fault_of k.games trial.mv) && not (moves_pin (moved k.games trial.mv) (pins_of league k.history)))
-    (worse (score_by trial.weight (cost_of league (moved k.games trial.mv))))
-    (subst (λ g. worse (score_by trial.weight (cost_of league g)) ≡ false) is above)
+    (worse (score_by trial.weights (cost_of league (moved k.games trial.mv))))
+    (subst (λ g. worse (score_by trial.weights (cost_of league g)) ≡ false) is above)
 
-pub fits_before : {league : LeagueData} {k : Kept} (weight : ℕ) → FollowsHistory league k → weight < 2 ^ 32 →
-    score_by weight k.cost < 2 ^ 64
-fits_before {league} {k} weight kept few =
-    rw (known_cost kept) (score_fits league k.games weight kept.league_is kept.same_size few)
+pub fits_before : {league : LeagueData} {k : Kept} (weights : Weights) → FollowsHistory league k → AreWeights weights →
+    score_by weights k.cost < 2 ^ 64
+fits_before {league} {k} weights kept few =
+    rw (known_cost kept) (score_fits league k.games weights kept.league_is kept.same_size few)
 
 pub all_pass : {league : LeagueData} {k : Kept} (trial : Trial) (after : Games) → FollowsHistory league k → after ≡ moved k.games trial.mv →
     length k.history < k.room → is_ok (fault_of k.games trial.mv) ≡ true → moves_pin (moved k.games trial.mv) (pins_of league k.history) ≡ false →
-    score_by trial.weight (cost_of league after) ≤ score_by trial.weight (cost_of league k.games) + trial.rise →
+    score_by trial.weights (cost_of league after) ≤ score_by trial.weights (cost_of league k.games) + trial.rise →
     passes league k.room k.history trial ≡ true
 all_pass {league} {k} trial after kept is under checked stays less =
-    let within : nat_le (score_by trial.weight (cost_of league after)) (score_by trial.weight (cost_of league k.games) + trial.rise) ≡ true =
+    let within : nat_le (score_by trial.weights (cost_of league after)) (score_by trial.weights (cost_of league k.games) + trial.rise) ≡ true =
     le-leb _ _ less in
     told trial kept ∙ rw (lt-ltb (length k.history) k.room under, checked, stays) (rw is at within)
 

@@ -13,11 +13,11 @@ use Rattle.fixture_board.specs.declared.trial.Trial.{Trial}
 use Rattle.fixture_board.specs.History.{games_of, pins_of, moves_pin, cost_at}
 
 -- whether the move is made at the version `at` of a board with this schedule and these pins: if there is room, nothing speaks against the
--- move, no pinned game gets another round, and the score by the trial's weight rises by no more than it lets it
+-- move, no pinned game gets another round, and the score by the trial's weights rises by no more than it lets it
 abbrev pub passes_at : LeagueData → ℕ → ℕ → Games → List Game → Trial → Bool
 passes_at league room at g pins trial =
     nat_lt at room && is_ok (fault_of g trial.mv) && not (moves_pin (moved g trial.mv) pins) &&
-    nat_le (score_by trial.weight (cost_of league (moved g trial.mv))) (score_by trial.weight (cost_of league g) + trial.rise)
+    nat_le (score_by trial.weights (cost_of league (moved g trial.mv))) (score_by trial.weights (cost_of league g) + trial.rise)
 
 -- the same after a history
 unfoldable pub passes : LeagueData → ℕ → List Entry → Trial → Bool

@@ -6,7 +6,7 @@ ghost use Rattle.policy.specs.Limits.{max_effort};
 ghost use Rattle.search.specs.Draws.{AreRoundsOf};
 ghost use Rattle.improvement.specs.declared.legs.Assignment.{Assignment};
 ghost use Rattle.improvement.specs.Legs.{LegRun};
-ghost use Rattle.improvement.specs.within.Aims.{IsAimOf};
+ghost use Rattle.improvement.specs.within.Aims.{breaks_rules, IsAimOf};
 ghost use Rattle.improvement.specs.within.Lines.{IsEntrant, IsLine, IsRunning, left_in, steps_left, assigned_steps, assignments_of, waiting_for};
 ghost use Rattle.fixture_board.specs.Record.{Book};
 
@@ -15,6 +15,7 @@ use crate::legs::{Assignment, RunningLeg, WaitingLeg};
 use crate::series::Series;
 use crate::setting::Setting;
 use crate::stage::{Beginning, Stage};
+use fixture_board::Board;
 use league::League;
 use policy::{Aim, Facts, Leg, LegEnd};
 use search::Gate;
@@ -25,6 +26,13 @@ use std::thread::{Scope, Threads};
 
 /// How many legs stand in line at most. More workers than that find no work.
 const PLACES: usize = 16;
+
+/// Whether the board's present schedule breaks hard rules.
+fn breaks_rules(board: &Board) -> bool
+    ensures { result ≡ breaks_rules board.now.league board.now.history }
+{
+    board.cost().of_rules > 0
+}
 
 fn aim_of(league: &League) -> Aim
     ensures { IsAimOf league.now result }
@@ -55,6 +63,7 @@ impl Line {
         ensures line { (legs : List LegRun) → IsLine setting.now.start.now legs result }
         ensures left { left_in result ≡ setting.now.plan.effort }
         ensures aim { IsAimOf setting.now.start.now.league result.series.facts.aim }
+        ensures rules { result.series.facts.breaks_rules ≡ breaks_rules setting.now.start.now.league setting.now.start.now.history }
     {
         let alloc = setting.run_context.alloc;
         let league = setting.start.league();
@@ -62,6 +71,7 @@ impl Line {
             teams: league.teams(),
             effort: setting.plan.effort,
             aim: aim_of(league),
+            breaks_rules: breaks_rules(setting.start),
         };
         Line {
             series: Series::new(facts, setting.plan),

@@ -33,6 +33,7 @@ impl Series {
         ensures lined { result.lined ≡ 0 }
         ensures teams { result.facts.teams ≡ facts.teams }
         ensures aim { result.facts.aim ≡ facts.aim }
+        ensures rules { result.facts.breaks_rules ≡ facts.breaks_rules }
     {
         let effort = plan.first.unwrap_or(plan.effort).min(plan.effort);
         let facts = Facts { effort, ..facts };
@@ -70,6 +71,7 @@ impl Series {
         ensures lined { self.new.lined ≡ 0 }
         ensures teams { self.new.facts.teams ≡ self.old.facts.teams }
         ensures aim { self.new.facts.aim ≡ self.old.facts.aim }
+        ensures rules { self.new.facts.breaks_rules ≡ self.old.facts.breaks_rules }
     {
         let effort = self.facts.effort.saturating_mul(2).max(1).min(self.later);
         self.facts = Facts {

@@ -1,7 +1,7 @@
 //! Boards compared.
 
 use crate::tests::checks::check_same;
-use costs::Cost;
+use costs::{Cost, Weights};
 use fixture_board::{Best, Board, Change, Entry, Trial};
 use std::process::Abort;
 
@@ -35,8 +35,12 @@ pub(crate) fn moved(rt: &impl Abort, entry: Entry) -> moves::Move {
 pub(crate) fn check_replay(rt: &impl Abort, again: &mut Board, played: &Board) {
     for i in 0..played.version() {
         let mv = moved(rt, played.entry(i));
-        let (weight, rise) = (1, u64::MAX);
-        let answer = again.try_move(0, Trial { mv, weight, rise });
+        let trial = Trial {
+            mv,
+            weights: Weights::alike(1),
+            rise: u64::MAX,
+        };
+        let answer = again.try_move(0, trial);
         check_same(rt, &(i, answer.is_some()), &(i, true));
     }
     check_same(rt, &shown(again), &shown(played));

@@ -1,6 +1,6 @@
 //! Chains at the start of a league, and legs on them.
 
-ghost use Rattle.policy.specs.Legs.{IsLeg};
+ghost use Rattle.policy.specs.Legs.{IsLeg, IsWeightCourse};
 
 use crate::tests::leagues::{Sample, league_of};
 use annealing::{Annealed, Chain, Conditions, LegPlan, anneal, measure};
@@ -15,6 +15,7 @@ pub(crate) const WEIGHTS: WeightCourse = WeightCourse {
     first: 2_000_000,
     least: 300_000,
     most: 100_000_000,
+    rule: None,
 };
 
 /// A leg that is taken at the start of a league.
@@ -22,6 +23,8 @@ pub(crate) const WEIGHTS: WeightCourse = WeightCourse {
 pub(crate) struct Asked {
     pub(crate) sample: Sample,
     pub(crate) room: u32,
+    /// What a breach of a rule weighs at least, if that is apart.
+    pub(crate) rule: Option<u64>,
     pub(crate) leg: Leg,
     pub(crate) seed: u64,
     pub(crate) stream: u64,
@@ -31,6 +34,7 @@ pub(crate) struct Asked {
 pub(crate) const MILD: Asked = Asked {
     sample: Sample::Circle,
     room: 10_000,
+    rule: None,
     leg: Leg {
         moves: MoveSet::Full,
         course: Course::Cools { from: 600, to: 150 },
@@ -57,14 +61,16 @@ pub(crate) fn gone_on<R: Wait, G: Gate>(
     run_context: RunContext<'_, R, G>,
     chain: Chain,
     plan: LegPlan,
+    weights: WeightCourse,
 ) -> Result<Annealed, Fail>
     requires { IsLeg plan.leg }
+    requires { IsWeightCourse weights }
 {
     let league = chain.board.league();
     let conditions = Conditions {
         unit: measure(run_context.alloc, league)?,
         rounds: each_round(league.teams()),
-        weights: WEIGHTS,
+        weights,
     };
     Ok(anneal(run_context, conditions, chain, plan)?)
 }
@@ -76,15 +82,21 @@ pub(crate) fn annealed<R: Wait>(rt: &R, alloc: Global, asked: Asked) -> Result<A
     let Asked {
         sample,
         room,
+        rule,
         leg,
         seed,
         stream,
     } = asked;
+    let rule = match rule {
+        Some(rule) => Some(rule.min(1_000_000_000)),
+        None => None,
+    };
     let gate = &NoGate;
     let chain = chain_of(alloc, sample, room)?;
     gone_on(
         RunContext { rt, alloc, gate },
         chain,
         LegPlan { leg, seed, stream },
+        WeightCourse { rule, ..WEIGHTS },
     )
 }

@@ -1,6 +1,6 @@
 //! The reports of a leg to a gate.
 
-use crate::tests::chains::{MILD, chain_of, gone_on};
+use crate::tests::chains::{MILD, WEIGHTS, chain_of, gone_on};
 use crate::tests::checks::check_same;
 use annealing::LegPlan;
 use fixture_board::Reply;
@@ -47,7 +47,7 @@ fn each_step_is_reported(rt: HostRuntime) -> Result<(), Fail> {
         alloc,
         gate: &gate,
     };
-    gone_on(run_context, chain, plan)?;
+    gone_on(run_context, chain, plan, WEIGHTS)?;
     check_same(&rt, &gate.reported.into_inner(), &(5000, 5));
     Ok(())
 }

@@ -8,6 +8,7 @@ use crate::tests::chains::{Asked, MILD, annealed, board_of};
 use crate::tests::checks::{check_holds_of, check_same};
 use crate::tests::leagues::Sample;
 use crate::tests::twin::{Twin, twin_of};
+use costs::Weights;
 use fixture_board::{Board, Trial};
 use policy::{Course, Leg, LegEnd, MoveSet};
 use std::alloc::Global;
@@ -116,6 +117,45 @@ fn other_chains_heat_until_half_of_the_steps(rt: HostRuntime) -> Result<(), Fail
     Ok(())
 }
 
+/// A breach of a rule weighs 12 units where one of a game's limit begins at 2.
+const APART: Asked = Asked {
+    sample: Sample::Impossible,
+    rule: Some(12_000_000),
+    ..MILD
+};
+
+#[test]
+fn rules_weigh_apart_from_other_limits(rt: HostRuntime) -> Result<(), Fail> {
+    let blocks = [
+        (600_000, 1000),
+        (510_000, 1000),
+        (420_000, 1000),
+        (330_000, 1000),
+        (240_000, 1000),
+    ];
+    // of the two only the one whose rules weigh apart counts steps that break rules alone, so its weight falls
+    let apart = twin_after(rt.alloc(), APART, &blocks)?;
+    let alike = twin_after(rt.alloc(), Asked { rule: None, ..APART }, &blocks)?;
+    check_holds_of(&rt, &(apart.weight, alike.weight), apart.weight < alike.weight);
+    check_blocks(&rt, rt.alloc(), APART, &blocks)?;
+    let ruled = Asked {
+        sample: Sample::Ruled,
+        ..APART
+    };
+    check_blocks(&rt, rt.alloc(), ruled, &blocks)?;
+    Ok(())
+}
+
+#[test]
+fn rules_weigh_no_less_than_other_limits(rt: HostRuntime) -> Result<(), Fail> {
+    let asked = Asked {
+        rule: Some(1),
+        ..APART
+    };
+    check_blocks(&rt, rt.alloc(), asked, &[(600_000, 1000), (510_000, 1000), (420_000, 1000), (330_000, 1000), (240_000, 1000)])?;
+    Ok(())
+}
+
 /// So many steps of all moves at one temperature.
 fn even(heat: u32, steps: u64) -> Asked
     requires { 1 ≤ steps }
@@ -147,7 +187,7 @@ fn check_falls(rt: &impl Abort, again: &mut Board, played: &Board, weight: u32)
         let mv = moved(rt, played.entry(i));
         let trial = Trial {
             mv,
-            weight,
+            weights: Weights::alike(weight),
             rise: 0,
         };
         check_same(rt, &(i, again.try_move(0, trial).is_some()), &(i, true));

@@ -2,6 +2,7 @@
 
 use crate::tests::chains::{Asked, board_of};
 use crate::tests::leagues::Sample;
+use costs::{Cost, Weights};
 use fixture_board::{Board, Trial};
 use moves::MoveKind;
 use rand_core::Rng;
@@ -39,6 +40,8 @@ static QUANTILES: [u32; 256] = [
 pub(crate) struct Twin {
     pub(crate) board: Board,
     pub(crate) weight: u128,
+    /// What a breach of a rule weighs at least, if that is apart.
+    pub(crate) rule: Option<u64>,
     pub(crate) generator: Lcg64Xsh32,
     /// The unit, as a fraction.
     pub(crate) unit: (u128, u128),
@@ -55,6 +58,7 @@ pub(crate) fn twin_of(alloc: Global, asked: Asked) -> Result<Twin, Fail> {
     Ok(Twin {
         board: board_of(alloc, asked.sample, asked.room)?,
         weight: 2_000_000,
+        rule: asked.rule,
         generator: Lcg64Xsh32::new(asked.seed, asked.stream),
         unit,
     })
@@ -66,13 +70,20 @@ impl Twin {
         let (numerator, denominator) = self.unit;
         let millionths = denominator.saturating_mul(1_000_000).max(1);
         let temperature = heat.saturating_mul(numerator).saturating_mul(1024) / millionths;
-        let weight = (self.weight.saturating_mul(numerator) / millionths).clamp(1, 1_000_000);
+        let whole = |weight: u128| (weight.saturating_mul(numerator) / millionths).clamp(1, 1_000_000);
+        let weight = whole(self.weight);
+        let rule = self.rule.map_or(weight, |rule| whole(u128::from(rule)));
+        let weights = Weights {
+            breach: weight as u32,
+            rule: rule.saturating_sub(weight) as u32,
+        };
         let mut feasible: u32 = 0;
         for _ in 0..steps {
-            if self.board.cost().is_feasible() {
+            let Cost { hard, of_rules, .. } = self.board.cost();
+            if hard == 0 || (self.rule.is_some() && hard == of_rules) {
                 feasible = feasible.saturating_add(1);
             }
-            self.step(kinds, temperature, weight as u32);
+            self.step(kinds, temperature, weights);
         }
         self.adapt(feasible, steps);
     }
@@ -84,12 +95,12 @@ impl Twin {
     }
 
     /// Draws a threshold and then a move, and tries the move.
-    fn step(&mut self, kinds: &'static [MoveKind], temperature: u128, weight: u32) {
+    fn step(&mut self, kinds: &'static [MoveKind], temperature: u128, weights: Weights) {
         let quantile = QUANTILES[(self.generator.next_u32() >> 24) as usize];
         let rise = temperature.saturating_mul(u128::from(quantile)) / 67_108_864;
         let teams = self.board.league().teams();
         let rounds = each_round(teams);
-        if weight < 1 || kinds.is_empty() || kinds.len() > 5 {
+        if weights.breach < 1 || kinds.is_empty() || kinds.len() > 5 {
             return;
         }
         let draws = Draws {
@@ -99,7 +110,7 @@ impl Twin {
         };
         let mv = draw_among(&mut self.generator, draws);
         let rise = u64::try_from(rise).unwrap_or(u64::MAX);
-        self.board.try_move(0, Trial { mv, weight, rise });
+        self.board.try_move(0, Trial { mv, weights, rise });
     }
 
     /// A fiftieth more, and two fiftieths of the feasible share less.

@@ -10,6 +10,7 @@ pub(crate) fn done(at: u64, travel: u64, hard: u64) -> Reply {
     let cost = Cost {
         travel,
         hard,
+        of_rules: 0,
         soft: 0,
     };
     Reply::Done { at, cost }
@@ -22,7 +23,7 @@ pub(crate) fn no(at: u64, why: Why) -> Reply {
 /// The answer.
 #[derive(Clone, Copy)]
 pub(crate) enum Answer {
-    /// The version, the travel and the hard breaches, with no soft cost.
+    /// The version, the travel and the hard breaches, none of a rule, with no soft cost.
     Done(u64, u64, u64),
     /// The version, and a cost that may be soft.
     Cost(u64, Cost),
@@ -38,8 +39,12 @@ impl Answer {
             Answer::Done(at, travel, hard) => done(at, travel, hard),
             Answer::Cost(at, cost) => Reply::Done { at, cost },
             Answer::Soft(at, travel, soft) => {
-                let hard = 0;
-                let cost = Cost { travel, hard, soft };
+                let cost = Cost {
+                    travel,
+                    hard: 0,
+                    of_rules: 0,
+                    soft,
+                };
                 Reply::Done { at, cost }
             }
             Answer::No(at, why) => no(at, why),
@@ -56,6 +61,7 @@ pub(crate) fn travel(travel: u64) -> Cost {
     Cost {
         travel,
         hard: 0,
+        of_rules: 0,
         soft: 0,
     }
 }

@@ -20,12 +20,17 @@ fn costs() -> [Cost; 4] {
     let cost = Cost {
         travel: 1,
         hard: 2,
+        of_rules: 1,
         soft: 3,
     };
     [
         cost,
         Cost { travel: 0, ..cost },
         Cost { hard: 0, ..cost },
+        Cost {
+            of_rules: 0,
+            ..cost
+        },
         Cost { soft: 0, ..cost },
     ]
 }

@@ -31,6 +31,7 @@ fn runs_make_the_start_no_best(rt: HostRuntime) -> Result<(), Fail> {
 const WORSE: costs::Cost = costs::Cost {
     travel: 26,
     hard: 0,
+    of_rules: 0,
     soft: 110,
 };
 

@@ -7,7 +7,7 @@ use crate::tests::drawn_asks::drawn_ask;
 use crate::tests::drawn_numbers::{among, drawn, drawn_move};
 use crate::tests::kept_cost::{league, league_with};
 use crate::tests::kept_games::{beginning, best_now, check_same_boards, is_pinned_moved};
-use costs::{Cost, cost_of};
+use costs::{Cost, Weights, cost_of};
 use fixture_board::{Board, Change, Trial};
 use fixtures::Schedule;
 use league::League;
@@ -18,26 +18,33 @@ use std::test::Fail;
 
 const WEIGHTS: &[u64] = &[1, 2, 40, 1000, 1_000_000, 4_294_967_295];
 
+const RULE_WEIGHTS: &[u64] = &[0, 0, 1, 30, 1_000_000, 4_294_967_295];
+
 const RISES: &[u64] = &[0, 0, 1, 20, 400, 1_000_000, u64::MAX];
 
 /// A trial of a drawn move, whose numbers may be just out of range.
 fn drawn_trial(state: &mut u64, teams: u8) -> Trial
-    ensures { 1 ≤ result.weight }
+    ensures { 1 ≤ result.weights.breach }
 {
-    let weight = among(state, WEIGHTS).clamp(1, 4_294_967_295) as u32;
+    let weights = Weights {
+        breach: among(state, WEIGHTS).clamp(1, 4_294_967_295) as u32,
+        rule: among(state, RULE_WEIGHTS).min(4_294_967_295) as u32,
+    };
     Trial {
         mv: drawn_move(state, teams.saturating_add(1)),
-        weight,
+        weights,
         rise: among(state, RISES),
     }
 }
 
-/// The score by a weight.
-fn score(cost: Cost, weight: u32) -> u64 {
-    let breaches = u64::from(weight).saturating_mul(cost.hard);
+/// The score by weights: a breach of a rule has both.
+fn score(cost: Cost, weights: Weights) -> u64 {
+    let both = u64::from(weights.breach).saturating_add(u64::from(weights.rule));
+    let others = cost.hard.saturating_sub(cost.of_rules);
     cost.travel
         .saturating_add(cost.soft)
-        .saturating_add(breaches)
+        .saturating_add(u64::from(weights.breach).saturating_mul(others))
+        .saturating_add(both.saturating_mul(cost.of_rules))
 }
 
 /// The cost of the whole schedule after a trial, if the trial is to make its move. The copy gets the move if it can be made.
@@ -47,14 +54,14 @@ fn wanted(board: &Board, copy: &mut Schedule, trial: Trial) -> Option<Cost> {
     if board.version() == u64::from(board.room()) || check(copy, trial.mv).is_err() {
         return None;
     }
-    let before = score(cost_of(copy, league), trial.weight);
+    let before = score(cost_of(copy, league), trial.weights);
     apply(copy, trial.mv);
     if copy.teams() != league.teams() || is_pinned_moved(board, copy) {
         return None;
     }
     let cost = cost_of(copy, league);
     let most = before.saturating_add(trial.rise);
-    (score(cost, trial.weight) <= most).then_some(cost)
+    (score(cost, trial.weights) <= most).then_some(cost)
 }
 
 /// Schedules to copy a board's into: the one before a trial, and one to make its move on.
@@ -75,7 +82,7 @@ impl Copies {
 
 /// The board tries the move, and is then as it has to be. Tells whether the move was made.
 fn check_trial(rt: &impl Abort, board: &mut Board, copies: &mut Copies, trial: Trial) -> bool
-    requires { 1 ≤ trial.weight }
+    requires { 1 ≤ trial.weights.breach }
 {
     let (version, cost, best) = (board.version(), board.cost(), board.best());
     copies.before.copy_from(board.schedule());

@@ -98,10 +98,10 @@ impl Board {
         }
     }
 
-    /// Makes the move if there is room, nothing speaks against it, no pinned game gets another round, and the score by the trial's weight
+    /// Makes the move if there is room, nothing speaks against it, no pinned game gets another round, and the score by the trial's weights
     /// rises by no more than the trial lets it. Gives the cost after it, or None if it isn't made.
     pub fn try_move(&mut self, caller: u32, trial: Trial) -> Option<Cost>
-        requires { 1 ≤ trial.weight }
+        requires { 1 ≤ trial.weights.breach }
         ensures cost { result ≡ trial_cost self.old.league self.old.room self.old.history trial }
         ensures history { self.new ≡ book self.old.league self.old.room
             (trial_history self.old.league self.old.room self.old.history caller trial) }

@@ -6,7 +6,7 @@ use crate::reply::Why;
 use crate::state::State;
 use crate::state::checks::Limit;
 use crate::trial::Trial;
-use costs::{Attempt, Cost, make_at_cost, make_within};
+use costs::{Attempt, Cost, Weights, make_at_cost, make_within};
 use fixtures::Game;
 use league::League;
 use moves::{check, exchange};
@@ -58,7 +58,7 @@ impl State {
         let attempt = Attempt {
             exchange: &exchange,
             known: self.cost,
-            weight: league.hard_weight(),
+            weights: Weights::alike(league.hard_weight()),
             limit,
         };
         let Some(cost) = make_within(&mut self.schedule, league, &mut self.evaluator, &attempt)
@@ -105,17 +105,17 @@ impl State {
         Ok(cost)
     }
 
-    /// Tries a move by a weight of its own, with neither a version nor a claim to check. Only what the score needs is counted.
+    /// Tries a move by weights of its own, with neither a version nor a claim to check. Only what the score needs is counted.
     pub(crate) fn try_move(&mut self, league: &League, trial: Trial) -> Option<Cost>
         requires memory { HasMemory self.old }
         requires kept { FollowsHistory league.now (kept_of self.old) }
         requires evaluator { IsEvaluatorAt league.now self.old.schedule self.old.evaluator.value }
-        requires weight { 1 ≤ trial.weight }
+        requires weight { 1 ≤ trial.weights.breach }
         ensures memory { HasMemory self.new }
         ensures evaluator { IsEvaluatorAt league.now self.new.schedule self.new.evaluator.value }
         ensures tried { IsTried league.now (kept_of self.old) (kept_of self.new) trial result }
     {
-        let Trial { mv, weight, rise } = trial;
+        let Trial { mv, weights, rise } = trial;
         if self.version() == u64::from(self.room) || check(&self.schedule, mv).is_err() {
             return None;
         }
@@ -123,11 +123,11 @@ impl State {
         if self.pins.would_be_moved(&self.schedule, &exchange) {
             return None;
         }
-        let before = self.cost.score_by(weight);
+        let before = self.cost.score_by(weights);
         let attempt = Attempt {
             exchange: &exchange,
             known: self.cost,
-            weight,
+            weights,
             limit: before.saturating_add(rise),
         };
         let cost = make_within(&mut self.schedule, league, &mut self.evaluator, &attempt)?;

@@ -8,7 +8,7 @@ ghost use Rattle.search.specs.within.Steps.{IsAllowedExchange, IsAnswered, IsCop
 ghost use Rattle.search.specs.within.Steps.{IsResultOf, accepted_count, asked_of, least_with, proposal_of};
 
 use crate::{Door, Gate};
-use costs::{Attempt, Cost, Evaluator, cost_of, make_within};
+use costs::{Attempt, Cost, Evaluator, Weights, cost_of, make_within};
 use fixture_board::{Proposal, Reply, Why};
 use fixtures::{Exchange, Schedule};
 use league::League;
@@ -162,7 +162,7 @@ pub(crate) fn step<R: Wait, D: Door, G: Gate>(
     let attempt = Attempt {
         exchange: &exchange,
         known: state.copy_cost.cost,
-        weight: scoring.league.hard_weight(),
+        weights: Weights::alike(scoring.league.hard_weight()),
         limit: state.copy_cost.score.saturating_add(candidate.slack),
     };
     let Some(cost) = make_within(copy, scoring.league, &mut state.evaluator, &attempt) else {

@@ -103,6 +103,7 @@ fn entry(rt: &impl Abort, board: &Board, i: u64) -> Entry {
 const TRAVEL_90: Cost = Cost {
     travel: 90,
     hard: 0,
+    of_rules: 0,
     soft: 0,
 };
 

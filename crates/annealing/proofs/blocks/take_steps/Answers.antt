@@ -11,7 +11,7 @@ loop-step-init c =
 
 pub loop-step-preserved : goal.loop-step-preserved
 loop-step-preserved c =
-    let flag = c.from.ensures ∙ ap from_bool c.is_feasible.ensures in
+    let flag = c.from.ensures ∙ ap from_bool c.counts_as_feasible.ensures in
     elim c.match-try_move.branch [
       | in-Some w ↦ AreSteps-made c.try_move.new.self c.draw_trial-trial.result (stream_of_generator c.draw_trial-trial.new.generator) w.in-Some.after
           c.match-try_move.cost c.from.result c.match-try_move.tally c.loop-step.invariant c.requires.league c.draw_trial-trial.ensures.kind

@@ -27,7 +27,7 @@ returns-then-would_be_moved-clause-tried c =
     left_pinned c.args.trial c.requires.kept (sym moves ∙ c.if-would_be_moved.true)
 
 pub score_by-before-requires : goal.score_by-before-requires
-score_by-before-requires c = fits_before c.args.trial.weight c.requires.kept (omega arith)
+score_by-before-requires c = fits_before c.args.trial.weights c.requires.kept (record { breach = omega arith; rule = omega arith })
 
 pub make_within-requires-clause-known : goal.make_within-requires-clause-known
 make_within-requires-clause-known c = known_cost c.requires.kept
@@ -35,8 +35,8 @@ make_within-requires-clause-known c = known_cost c.requires.kept
 pub returns-in_err-cost-clause-tried : goal.returns-in_err-cost-clause-tried
 returns-in_err-cost-clause-tried c =
     let after = exchanged_by c.args.self.now.schedule c.exchange-exchange.result in
-    let fits = score_fits_after c.args.league.now c.args.self.now.schedule c.exchange-exchange.result c.args.trial.weight
-    c.requires.kept.league_is (sym c.requires.kept.same_size) (omega arith) in
+    let fits = score_fits_after c.args.league.now c.args.self.now.schedule c.exchange-exchange.result c.args.trial.weights
+    c.requires.kept.league_is (sym c.requires.kept.same_size) (record { breach = omega arith; rule = omega arith }) in
     subst (IsTried c.args.league.now (kept_of c.args.self.now) _ c.args.trial) (sym c.from_residual.ensures) (record {
       fails = fails_by_score c.args.trial after c.requires.kept (sym c.exchange-exchange.ensures.is_move.is)
           (omega (
@@ -45,7 +45,7 @@ returns-in_err-cost-clause-tried c =
             c.in_err-cost.ensures.value,
             c.saturating_add.ensures,
             c.score_by-before.ensures,
-            ap (score_by c.args.trial.weight) (known_cost c.requires.kept),
+            ap (score_by c.args.trial.weights) (known_cost c.requires.kept),
           ));
       same = ap (λ (g : Games). record (kept_of c.args.self.now) { games = g }) c.in_err-cost.ensures.schedule;
     })
@@ -63,9 +63,9 @@ returns-clause-tried c =
     (omega (
       arith,
       c.in_ok-cost.ensures.value.1,
-      ap (score_by c.args.trial.weight) cost_is,
+      ap (score_by c.args.trial.weights) cost_is,
       c.saturating_add.ensures,
       c.score_by-before.ensures,
-      ap (score_by c.args.trial.weight) (known_cost c.requires.kept),
+      ap (score_by c.args.trial.weights) (known_cost c.requires.kept),
     )) in
     (rw c.push_reserved.ensures.items (made c.args.trial _ _ c.requires.kept passed moved_is cost_is), refl)
