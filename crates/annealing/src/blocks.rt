@@ -3,6 +3,7 @@
 ghost use Rattle.std.specs.Prelude.{◌≡◌, ◌^◌, ◌<◌, ◌≤◌, Contains};
 ghost use Rattle.league.specs.League.{IsLeague};
 ghost use Rattle.moves.specs.Moves.{kind_of};
+ghost use Rattle.costs.specs.Costs.{AreWeights};
 ghost use Rattle.search.specs.Draws.{CanDraw, stream_of_generator};
 ghost use Rattle.annealing.specs.within.Blocks.{counts_as_feasible, start_at, trial_drawn, walked, IsTallied};
 ghost use Rattle.annealing.specs.within.Boards.{least_in};
@@ -47,7 +48,7 @@ pub(crate) struct Tally {
 pub(crate) fn take_steps(board: &mut Board, generator: &mut Lcg64Xsh32, block: Block<'_>) -> Tally
     requires league { IsLeague board.old.league }
     requires draws { CanDraw block.draws.teams block.draws.kinds.now block.draws.rounds.now }
-    requires weight { 1 ≤ block.weights.breach }
+    requires weights { AreWeights block.weights }
     requires temperature { block.temperature < 2 ^ 58 }
     ensures walked { IsTallied result (stream_of_generator generator.new) board.new
         (walked board.old.league board.old.room block.entry block.entry.steps

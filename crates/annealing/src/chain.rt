@@ -25,13 +25,14 @@ pub struct Conditions<'a> {
 }
 
 impl Conditions<'_> {
-    ghost use Rattle.std.specs.Prelude.{◌≡◌, ◌≤◌};
+    ghost use Rattle.std.specs.Prelude.{◌≡◌};
     ghost use Rattle.annealing.specs.within.Units.{weights_in};
+    ghost use Rattle.costs.specs.Costs.{AreWeights};
 
     /// The weights of breaches of hard limits in the score where the chain has this weight.
     pub(crate) fn weights_at(&self, weight: u64) -> Weights
         ensures value { result ≡ weights_in self.now.unit weight self.now.weights.rule }
-        ensures least { 1 ≤ result.breach }
+        ensures are { AreWeights result }
     {
         let breach = self.unit.weight(weight);
         let rule = match self.weights.rule {

@@ -14,7 +14,7 @@ use Rattle.tours.specs.Phased.{is_unphased, unphased, unphased_part}
 use Rattle.fixtures.specs.declared.exchanges.Exchange.{Exchange}
 use Rattle.robinx.proofs.ForCallers.{part_le}
 use Rattle.costs.specs.Costs.{hard_penalty, soft_penalty, penalty_of, sum_over_rules, near_cost, cost_of}
-use Rattle.costs.specs.within.CostParts.{games_cost, rule_part, rules_part, penalties_part, IsPredicted}
+use Rattle.costs.specs.within.CostParts.{games_cost, halves_part, rule_part, rules_part, penalties_part, IsPredicted}
 use Rattle.costs.specs.declared.cost.Cost.{Cost}
 use Rattle.costs.specs.declared.scope.Scope.{Scope}
 

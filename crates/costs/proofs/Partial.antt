@@ -1,6 +1,5 @@
 -- A cost with what an exchange can alter of some of the rules costs no more than with all of them.
-use Rattle.std.proofs.Common.{◌≡◌, ℕ, ◌+◌, ◌*◌, ◌^◌, ◌<◌, ◌≤◌, Bool, true, false, true≢false, if◌then◌else◌, length, slice_get, Some, refl, sym, ap, ◌∙◌, arith}
-use Rattle.std.proofs.Math.Nat.{mul-le-mul_left}
+use Rattle.std.proofs.Common.{◌≡◌, ℕ, ◌+◌, ◌^◌, ◌<◌, ◌≤◌, Bool, true, false, true≢false, if◌then◌else◌, length, slice_get, Some, refl, sym, ap, ◌∙◌, arith}
 use Rattle.league.specs.League.{LeagueData, teams, IsLeague}
 use Rattle.league.specs.Sets.{has, IsBelow}
 use Rattle.league.specs.within.Sets.{IsWithoutLowest}
@@ -8,10 +7,9 @@ use Rattle.league.specs.Sums.{sum_where}
 use Rattle.league.specs.declared.rule.Rule.{Rule}
 use Rattle.league.proofs.ForCallers.{has_empty, lowest_below, sum_below_add, sum_below_same, sum_where_none, sum_where_without}
 use Rattle.fixtures.specs.Games.{Games, IsDoubleRoundRobin}
-use Rattle.tours.specs.Phased.{unphased_part}
-use Rattle.costs.specs.Costs.{cost_of, hard_penalty, soft_penalty, where_phased, score_by, score_limit}
+use Rattle.costs.specs.Costs.{cost_of, hard_penalty, soft_penalty, score_by, score_limit, AreWeights}
 use Rattle.costs.specs.within.CostParts.{halves_part, penalties_part, rule_part, parts_of, with_halves, with_penalties, IsRest, IsWithin, KnowsRules}
-use Rattle.costs.proofs.Scores.{AreWeights, IsSmall, cost_small, of_rules_le, score_fits}
+use Rattle.costs.proofs.Scores.{IsSmall, cost_small, of_rules_le, score_fits}
 use Rattle.costs.specs.declared.cost.Cost.{Cost}
 use Rattle.costs.specs.declared.weights.Weights.{Weights}
 use Rattle.costs.specs.declared.scope.Scope.{Scope}

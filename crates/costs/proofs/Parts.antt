@@ -29,13 +29,12 @@ use Rattle.robinx.specs.Deviations.{deviation}
 use Rattle.robinx.specs.Parts.{deviation_part}
 use Rattle.robinx.proofs.ForCallers.{deviation_balance}
 use Rattle.costs.specs.Costs.{hard_penalty, soft_penalty, penalty_of, sum_over_rules, where_phased, cost_of, score_by, score_of}
-use Rattle.costs.specs.Costs.{near_cost, score_limit, IsCostWithin}
+use Rattle.costs.specs.Costs.{near_cost, score_limit, AreWeights, IsCostWithin}
 use Rattle.costs.specs.within.CostParts.{games_cost, halves_part, rule_part, rules_part, penalties_part, with_halves, with_penalties, IsRest, IsScope, IsPredicted}
 use Rattle.costs.specs.declared.scope.Scope.{Scope}
 use Rattle.costs.specs.declared.cost.Cost.{Cost}
 use Rattle.costs.specs.declared.weights.Weights.{Weights}
-use Rattle.costs.specs.declared.penalties.Penalties.{Penalties}
-use Rattle.costs.proofs.Scores.{AreWeights, cost_travel, exchanged-teams, score_below, score_fits}
+use Rattle.costs.proofs.Scores.{cost_travel, exchanged-teams, score_below, score_fits}
 
 -- what differs
 

@@ -3,7 +3,7 @@ use Rattle.std.proofs.Common.{◌≡◌, ℕ, ◌+◌, ◌-◌, ◌*◌, ◌^◌
 use Rattle.std.proofs.Common.{Bool, true, false, length, slice_get, Option, Some, None, refl, sym, subst, le_refl, arith}
 use Rattle.std.proofs.lemmas.List.Elements.{All-from_recursion, All-get_or}
 use Rattle.std.proofs.lemmas.Option.{slice_get_within, get_or_from_slice_get}
-use Rattle.std.proofs.Math.Nat.{mul-le-mul}
+use Rattle.std.proofs.Math.Nat.{mul-le-mul, mul-le-mul_left}
 use Rattle.league.specs.Limits.{deviation_limit, max_rules, max_weight, max_teams, max_rounds}
 use Rattle.league.specs.League.{LeagueData, teams, IsLeague}
 use Rattle.league.specs.RuleLimits.{IsRuleFor, IsWeight}
@@ -22,7 +22,7 @@ use Rattle.tours.specs.Repeats.{repeats_after, repeats}
 use Rattle.tours.specs.Phased.{is_unphased, unphased}
 use Rattle.robinx.specs.Deviations.{deviation}
 use Rattle.costs.specs.Costs.{hard_penalty, soft_penalty, penalty_of, sum_over_rules, where_phased, cost_of, score_by, score_of}
-use Rattle.costs.specs.Costs.{near_cost, score_limit, unless_free}
+use Rattle.costs.specs.Costs.{near_cost, score_limit, unless_free, AreWeights}
 use Rattle.tours.specs.Moved.{is_moved, moved_from}
 use Rattle.costs.specs.declared.cost.Cost.{Cost}
 use Rattle.costs.specs.declared.weights.Weights.{Weights}
@@ -194,26 +194,21 @@ score_below l g is same =
       mul-le-mul is.weight_most (hard_le l g is same forty),
     )
 
--- weights of 32 bits
-pub record AreWeights (weights : Weights) : Type 0 where
-  pub breach : weights.breach < 2 ^ 32
-  pub rule : weights.rule < 2 ^ 32
-
--- by such weights each score fits 64 bits
+-- by any weights each score fits 64 bits
 pub score_fits : (l : LeagueData) (g : Games) (weights : Weights) → IsLeague l → g.teams ≡ teams l → AreWeights weights →
     score_by weights (cost_of l g) < 2 ^ 64
 score_fits l g weights is same few =
     let forty : g.teams ≤ max_teams = omega (arith, is.table.most) in
-    let breach : weights.breach ≤ 4294967295 = omega (arith, few.breach) in
-    let rule : weights.rule ≤ 4294967295 = omega (arith, few.rule) in
     let hard = hard_le l g is same forty in
+    let of_rules : (cost_of l g).of_rules ≤ max_rules * deviation_limit + 127960 = omega (arith, of_rules_le l g, hard) in
     omega (
       arith,
       cost_travel l g,
       travel_le l g is forty,
       soft_le l g is same forty,
-      mul-le-mul breach hard,
-      mul-le-mul rule (omega (arith, of_rules_le l g, hard) : (cost_of l g).of_rules ≤ max_rules * deviation_limit + 127960),
+      few.fit,
+      mul-le-mul_left weights.breach hard,
+      mul-le-mul_left weights.rule of_rules,
     )
 
 pub cost_small : (l : LeagueData) (g : Games) → IsLeague l → teams l ≡ g.teams → IsSmall (cost_of l g)

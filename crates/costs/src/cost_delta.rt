@@ -6,7 +6,7 @@ ghost use Rattle.league.specs.Limits.{max_rounds, max_teams, max_weight};
 ghost use Rattle.tours.specs.Repeats.{repeats};
 ghost use Rattle.tours.specs.Tours.{travel};
 ghost use Rattle.fixtures.specs.Exchanges.{exchanged_by, IsExchange};
-ghost use Rattle.costs.specs.Costs.{cost_of, near_cost, score_by, unless_free};
+ghost use Rattle.costs.specs.Costs.{cost_of, near_cost, score_by, unless_free, AreWeights};
 ghost use Rattle.costs.specs.within.CostParts.{IsPredicted};
 
 use crate::attempt::Attempt;
@@ -26,6 +26,7 @@ pub(crate) fn predicted_within(
     requires same_size { teams league.now ≡ schedule.now.teams }
     requires can_be_made { IsExchange schedule.now attempt.now.exchange.now }
     requires known { attempt.now.known ≡ cost_of league.now schedule.now }
+    requires weights { AreWeights attempt.now.weights }
     ensures { MatchOption result
         (attempt.now.limit < score_by attempt.now.weights (cost_of league.now (exchanged_by schedule.now attempt.now.exchange.now)))
         (λ predicted. IsPredicted league.now schedule.now attempt.now.exchange.now predicted) }

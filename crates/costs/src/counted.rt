@@ -7,7 +7,7 @@ ghost use Rattle.league.specs.Limits.{max_rules, max_teams};
 ghost use Rattle.league.specs.Sets.{has};
 ghost use Rattle.tours.specs.Phased.{unphased_part};
 ghost use Rattle.fixtures.specs.Exchanges.{exchanged_by};
-ghost use Rattle.costs.specs.Costs.{cost_of, score_by, where_phased, IsCostWithin};
+ghost use Rattle.costs.specs.Costs.{cost_of, score_by, where_phased, AreWeights, IsCostWithin};
 ghost use Rattle.costs.specs.within.CostParts.{IsPredicted, IsRest, IsScope, KnowsRules};
 ghost use Rattle.costs.specs.within.KeptDeviations.{AreKeptDeviations, AreRests, IsKeptOf};
 
@@ -57,6 +57,7 @@ pub(crate) fn rest_within(
 ) -> Option<Cost>
     requires same_size { teams league.now ≡ schedule.now.teams }
     requires scope { IsScope schedule.now scope.now }
+    requires weights { AreWeights scope.now.attempt.weights }
     requires rules { KnowsRules league.now scope.now }
     requires deviations { AreKeptDeviations league.now.rules schedule.now deviations.old }
     requires predicted { IsPredicted league.now schedule.now scope.now.attempt.exchange.now predicted }
@@ -87,6 +88,7 @@ pub(crate) fn whole_within(
 ) -> Option<Cost>
     requires same_size { teams league.now ≡ schedule.now.teams }
     requires rules { KnowsRules league.now scope.now }
+    requires weights { AreWeights scope.now.attempt.weights }
     requires rest { IsRest league.now scope.now schedule.now rest }
     requires kept_length { length deviations.old.kept ≡ max_rules }
     requires next_length { length deviations.old.next ≡ max_rules }

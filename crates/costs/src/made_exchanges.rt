@@ -3,7 +3,7 @@
 ghost use Rattle.std.specs.Prelude.{◌≡◌, ◌<◌, ◌≤◌, IfSome, MatchOption};
 ghost use Rattle.league.specs.League.{teams};
 ghost use Rattle.fixtures.specs.Exchanges.{exchanged_by, IsExchange};
-ghost use Rattle.costs.specs.Costs.{cost_of, score_of, score_limit, IsCostWithin};
+ghost use Rattle.costs.specs.Costs.{cost_of, score_of, score_limit, AreWeights, IsCostWithin};
 ghost use Rattle.costs.specs.Evaluators.{IsEvaluatorAt};
 
 use crate::attempt::Attempt;
@@ -59,7 +59,7 @@ pub fn make_within(
     requires evaluator { IsEvaluatorAt league.now schedule.old evaluator.old }
     requires can_be_made { IsExchange schedule.old attempt.now.exchange.now }
     requires known { attempt.now.known ≡ cost_of league.now schedule.old }
-    requires weight { 1 ≤ attempt.now.weights.breach }
+    requires weights { AreWeights attempt.now.weights }
     ensures value { IsCostWithin league.now attempt.now.weights attempt.now.limit (exchanged_by schedule.old attempt.now.exchange.now) result }
     ensures schedule { MatchOption result (schedule.new ≡ schedule.old)
         (λ cost. schedule.new ≡ exchanged_by schedule.old attempt.now.exchange.now) }

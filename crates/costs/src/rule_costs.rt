@@ -4,7 +4,7 @@ ghost use Rattle.std.specs.Prelude.{◌≡◌, ℕ, ◌*◌, ◌<◌, ◌≤◌,
 ghost use Rattle.league.specs.League.{teams};
 ghost use Rattle.league.specs.Limits.{deviation_limit, max_rules, max_weight};
 ghost use Rattle.league.specs.Sets.{has, IsBelow};
-ghost use Rattle.costs.specs.Costs.{cost_of, hard_penalty, score_by, soft_penalty, sum_over_rules};
+ghost use Rattle.costs.specs.Costs.{cost_of, hard_penalty, score_by, soft_penalty, sum_over_rules, AreWeights};
 ghost use Rattle.costs.specs.within.CostParts.{parts_of, rules_part, with_penalties, IsWithin, KnowsRules};
 ghost use Rattle.costs.specs.within.KeptDeviations.{AreKeptDeviations, AreMadeWhole, AreRests, IsKeptOf};
 
@@ -79,6 +79,7 @@ pub(crate) fn with_rules(
     before: Cost,
 ) -> Option<Cost>
     requires same_size { teams league.now ≡ schedule.now.teams }
+    requires weights { AreWeights scope.now.attempt.weights }
     requires below { IsBelow (length league.now.rules) rules }
     requires alterable { (i : ℕ) → has rules i ≡ true → has scope.now.rules i ≡ true }
     requires before { IsWithin league.now scope.now rules schedule.now before }

@@ -6,7 +6,7 @@ use Rattle.league.specs.League.{LeagueData}
 use Rattle.fixtures.specs.Games.{Games}
 use Rattle.moves.specs.declared.fault.MoveFault.{MoveFault}
 use Rattle.moves.specs.Moves.{moved, fault_of}
-use Rattle.costs.specs.Costs.{cost_of, score_by}
+use Rattle.costs.specs.Costs.{cost_of, score_by, AreWeights}
 use Rattle.fixture_board.specs.declared.change.Change.TheVariants.{Shift}
 use Rattle.fixture_board.specs.declared.change.Entry.{Entry}
 use Rattle.costs.specs.declared.cost.Cost.{Cost}
@@ -20,7 +20,7 @@ use Rattle.fixture_board.proofs.Keeps.{IsGranted-shift, known_cost}
 use Rattle.fixture_board.proofs.Next.{cost_at-callers}
 use Rattle.fixture_board.proofs.OneMore.{IsLegal-more}
 use Rattle.fixture_board.proofs.Script.{granted-shift}
-use Rattle.costs.proofs.ForCallers.{AreWeights, score_fits}
+use Rattle.costs.proofs.ForCallers.{score_fits}
 use Rattle.fixture_board.proofs.Scored.{IsScored-league}
 
 -- what is so of a move that passes

@@ -1,6 +1,6 @@
 //! Moves that are tried on boards, against the costs of whole schedules, and boards that are made of boards.
 
-ghost use Rattle.std.specs.Prelude.{◌≤◌};
+ghost use Rattle.costs.specs.Costs.{AreWeights};
 
 use crate::tests::checks::{check_entry, check_holds, check_same};
 use crate::tests::drawn_asks::drawn_ask;
@@ -24,11 +24,13 @@ const RISES: &[u64] = &[0, 0, 1, 20, 400, 1_000_000, u64::MAX];
 
 /// A trial of a drawn move, whose numbers may be just out of range.
 fn drawn_trial(state: &mut u64, teams: u8) -> Trial
-    ensures { 1 ≤ result.weights.breach }
+    ensures { AreWeights result.weights }
 {
+    let breach = among(state, WEIGHTS).clamp(1, 4_294_967_295);
+    let rule = among(state, RULE_WEIGHTS).min(4_294_967_295 - breach);
     let weights = Weights {
-        breach: among(state, WEIGHTS).clamp(1, 4_294_967_295) as u32,
-        rule: among(state, RULE_WEIGHTS).min(4_294_967_295) as u32,
+        breach: breach as u32,
+        rule: rule as u32,
     };
     Trial {
         mv: drawn_move(state, teams.saturating_add(1)),
@@ -82,7 +84,7 @@ impl Copies {
 
 /// The board tries the move, and is then as it has to be. Tells whether the move was made.
 fn check_trial(rt: &impl Abort, board: &mut Board, copies: &mut Copies, trial: Trial) -> bool
-    requires { 1 ≤ trial.weights.breach }
+    requires { AreWeights trial.weights }
 {
     let (version, cost, best) = (board.version(), board.cost(), board.best());
     copies.before.copy_from(board.schedule());

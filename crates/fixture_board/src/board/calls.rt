@@ -1,6 +1,7 @@
 //! The calls of a board.
 
-ghost use Rattle.std.specs.Prelude.{◌≡◌, ◌≤◌};
+ghost use Rattle.std.specs.Prelude.{◌≡◌};
+ghost use Rattle.costs.specs.Costs.{AreWeights};
 ghost use Rattle.fixture_board.specs.History.{IsLegal};
 ghost use Rattle.fixture_board.specs.Record.{book};
 ghost use Rattle.fixture_board.specs.Replies.{next_of, reply_of};
@@ -101,7 +102,7 @@ impl Board {
     /// Makes the move if there is room, nothing speaks against it, no pinned game gets another round, and the score by the trial's weights
     /// rises by no more than the trial lets it. Gives the cost after it, or None if it isn't made.
     pub fn try_move(&mut self, caller: u32, trial: Trial) -> Option<Cost>
-        requires { 1 ≤ trial.weights.breach }
+        requires { AreWeights trial.weights }
         ensures cost { result ≡ trial_cost self.old.league self.old.room self.old.history trial }
         ensures history { self.new ≡ book self.old.league self.old.room
             (trial_history self.old.league self.old.room self.old.history caller trial) }

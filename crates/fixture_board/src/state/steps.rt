@@ -14,7 +14,7 @@ use moves::{check, exchange};
 impl State {
     ghost use Rattle.std.specs.Prelude.{◌≡◌, ◌≤◌, length};
     ghost use Rattle.league.specs.League.{LeagueData, teams};
-    ghost use Rattle.costs.specs.Costs.{cost_of};
+    ghost use Rattle.costs.specs.Costs.{cost_of, AreWeights};
     ghost use Rattle.costs.specs.Evaluators.{IsEvaluatorAt};
     ghost use Rattle.fixture_board.specs.History.{shifted};
     ghost use Rattle.fixture_board.specs.within.PinTable.{taken_back};
@@ -110,7 +110,7 @@ impl State {
         requires memory { HasMemory self.old }
         requires kept { FollowsHistory league.now (kept_of self.old) }
         requires evaluator { IsEvaluatorAt league.now self.old.schedule self.old.evaluator.value }
-        requires weight { 1 ≤ trial.weights.breach }
+        requires weights { AreWeights trial.weights }
         ensures memory { HasMemory self.new }
         ensures evaluator { IsEvaluatorAt league.now self.new.schedule self.new.evaluator.value }
         ensures tried { IsTried league.now (kept_of self.old) (kept_of self.new) trial result }

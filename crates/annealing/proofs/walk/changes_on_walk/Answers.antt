@@ -27,7 +27,7 @@ loop-step-preserved c =
     ap (λ (b : Book). b.history) c.try_move.ensures.history ∙
     ap (λ l. trial_history l c.loop-step.board.room h 0 (record { mv = c.draw_among.result; weights = c.alike.result; rise = greatest })) was.league ∙
     ap (λ r. trial_history c.args.league r h 0 (record { mv = c.draw_among.result; weights = c.alike.result; rise = greatest })) was.room ∙
-    ap (λ w. trial_history c.args.league 1000 h 0 (record { mv = c.draw_among.result; weights = w; rise = greatest })) c.alike.ensures in
+    ap (λ w. trial_history c.args.league 1000 h 0 (record { mv = c.draw_among.result; weights = w; rise = greatest })) c.alike.ensures.value in
     let league_is : c.try_move.new.self.league ≡ c.args.league = ap (λ (b : Book). b.league) c.try_move.ensures.history ∙ was.league in
     let total_is : c.loop-step.total ≡ total_at c.args.league h = was.total ∙ ap (λ l. total_at l h) was.league in
     let after_is : c.total-next.result ≡ total_at c.args.league c.try_move.new.self.history =

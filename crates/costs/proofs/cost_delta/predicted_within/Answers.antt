@@ -25,7 +25,7 @@ score_by-requires c =
           (omega (arith, c.runs_of-runs.ensures.balance, c.runs_of-runs.ensures.within)),
       c.travel_after-travel.ensures,
       score_fits_after c.args.league.now c.args.schedule.now c.args.attempt.now.exchange.now c.args.attempt.now.weights
-          c.teams.ensures.limits c.requires.same_size (record { breach = omega arith; rule = omega arith }),
+          c.teams.ensures.limits c.requires.same_size c.requires.weights,
     )
 
 pub returns-then-score_by-limit : goal.returns-then-score_by-limit

@@ -10,5 +10,5 @@ score_by-requires c =
       rest_scores c.args.league.now c.args.scope.now.attempt.weights c.args.scope.now (exchanged_by c.args.schedule.now c.args.scope.now.attempt.exchange.now)
           c.rest_of-rest.result c.rest_of-rest.ensures.rest,
       score_fits_after c.args.league.now c.args.schedule.now c.args.scope.now.attempt.exchange.now c.args.scope.now.attempt.weights
-          c.teams.ensures.limits c.requires.same_size (record { breach = omega arith; rule = omega arith }),
+          c.teams.ensures.limits c.requires.same_size c.requires.weights,
     )

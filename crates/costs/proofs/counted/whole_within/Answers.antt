@@ -1,4 +1,4 @@
-use Rattle.std.proofs.Common.{◌≡◌, ◌+◌, ◌||◌, Bool, true, false, refl, sym, ap, arith}
+use Rattle.std.proofs.Common.{◌≡◌, ◌||◌, Bool, true, false, refl, sym, ap, arith}
 use Rattle.league.specs.Sets.{has}
 use Rattle.costs.proofs.KeptDeviations.{rests_same}
 use Rattle.costs.proofs.Partial.{begun_is, first_within, last_within, whole_is}
@@ -42,7 +42,7 @@ score_by-requires c =
     let whole = whole_is c.args.league.now c.args.scope.now c.args.schedule.now _ begun _ c.in_ok-first.ensures.cost _ c.in_ok-cost.ensures.cost in
     rw whole
     (score_fits c.args.league.now c.args.schedule.now c.args.scope.now.attempt.weights c.teams.ensures.limits (sym c.requires.same_size)
-    (record { breach = omega arith; rule = omega arith }))
+    c.requires.weights)
 
 pub returns-then-score_by-scope-clause-cost : goal.returns-then-score_by-scope-clause-cost
 returns-then-score_by-scope-clause-cost c =

@@ -1,13 +1,13 @@
 use Rattle.std.proofs.Common.{sym, ◌∙◌, ap, arith}
-use Rattle.costs.specs.Costs.{alike, cost_of}
+use Rattle.costs.specs.Costs.{cost_of}
 use Rattle.costs.proofs.Parts.{score_fits_after, within_greatest}
 use Rattle.costs.proofs.made_exchanges.make_at_cost.Goals as goal
 
 pub unwrap-requires : goal.unwrap-requires
 unwrap-requires c =
-    within_greatest c.args.league.now (alike 1) _ c.make_within.result c.make_within.ensures.value
-    (score_fits_after c.args.league.now c.args.schedule.now c.args.exchange.now (alike 1) c.teams.ensures.limits c.requires.same_size
-    (record { breach = omega arith; rule = omega arith }))
+    within_greatest c.args.league.now _ _ c.make_within.result c.make_within.ensures.value
+    (score_fits_after c.args.league.now c.args.schedule.now c.args.exchange.now _ c.teams.ensures.limits c.requires.same_size
+    (c.alike.ensures.are (omega arith)))
 
 pub returns : goal.returns
 returns c = record {

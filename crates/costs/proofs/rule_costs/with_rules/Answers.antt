@@ -19,7 +19,7 @@ loop-i-init c =
     none_counted _ _ _ _ _ _ c.requires.below c.into_iter-i-iterator.ensures.into_iter_gives in
     record {
       counted = counted;
-      no_more = no_more c.args.scope.now.attempt.weights (record { breach = omega arith; rule = omega arith }) c.teams.ensures.limits c.requires.same_size c.requires.before counted;
+      no_more = no_more c.args.scope.now.attempt.weights c.requires.weights c.teams.ensures.limits c.requires.same_size c.requires.before counted;
       same = record { known = refl; kept = refl; broken = refl };
       next_length = c.requires.next_length;
       within = λ i has_it. sym (ap (λ set. has set i) c.into_iter-i-iterator.ensures.into_iter_gives) ∙ has_it;
@@ -41,7 +41,7 @@ loop-i-preserved c =
     (omega (arith, rw c.deviation_part-part.ensures.value at c.of_rule-added.ensures.soft)) in
     record {
       counted = counted;
-      no_more = no_more c.args.scope.now.attempt.weights (record { breach = omega arith; rule = omega arith }) c.teams.ensures.limits c.requires.same_size c.requires.before counted;
+      no_more = no_more c.args.scope.now.attempt.weights c.requires.weights c.teams.ensures.limits c.requires.same_size c.requires.before counted;
       same = record {
         known = c.loop-i.invariant.same.known;
         kept = c.loop-i.invariant.same.kept;

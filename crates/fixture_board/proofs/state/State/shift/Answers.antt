@@ -39,7 +39,7 @@ returns-in_default-clause-step c =
       reason = shift_judged c.args.proposal _ after (cost_of c.args.league.now after) _ _ _ (Err c.limit_of-limit.result.above)
           c.requires.kept c.check_move.ensures c.in_ok-check_move.was moves c.if-would_be_moved.false refl
           (sym c.exchange-exchange.ensures.is_move.is) refl c.score-before.ensures refl
-          (sym (c.limit_of-limit.ensures.above _ (omega (arith, rw (c.alike.ensures, c.hard_weight.ensures.value) at c.in_default.ensures.value)) (omega (arith, small))));
+          (sym (c.limit_of-limit.ensures.above _ (omega (arith, rw (c.alike.ensures.value, c.hard_weight.ensures.value) at c.in_default.ensures.value)) (omega (arith, small))));
       same = ap (λ (g : Games). record (kept_of c.args.self.now) { games = g }) c.in_default.ensures.schedule;
     }
 

@@ -27,7 +27,7 @@ returns-then-would_be_moved-clause-tried c =
     left_pinned c.args.trial c.requires.kept (sym moves ∙ c.if-would_be_moved.true)
 
 pub score_by-before-requires : goal.score_by-before-requires
-score_by-before-requires c = fits_before c.args.trial.weights c.requires.kept (record { breach = omega arith; rule = omega arith })
+score_by-before-requires c = fits_before c.args.trial.weights c.requires.kept c.requires.weights
 
 pub make_within-requires-clause-known : goal.make_within-requires-clause-known
 make_within-requires-clause-known c = known_cost c.requires.kept
@@ -36,7 +36,7 @@ pub returns-in_err-cost-clause-tried : goal.returns-in_err-cost-clause-tried
 returns-in_err-cost-clause-tried c =
     let after = exchanged_by c.args.self.now.schedule c.exchange-exchange.result in
     let fits = score_fits_after c.args.league.now c.args.self.now.schedule c.exchange-exchange.result c.args.trial.weights
-    c.requires.kept.league_is (sym c.requires.kept.same_size) (record { breach = omega arith; rule = omega arith }) in
+    c.requires.kept.league_is (sym c.requires.kept.same_size) c.requires.weights in
     subst (IsTried c.args.league.now (kept_of c.args.self.now) _ c.args.trial) (sym c.from_residual.ensures) (record {
       fails = fails_by_score c.args.trial after c.requires.kept (sym c.exchange-exchange.ensures.is_move.is)
           (omega (
