@@ -166,8 +166,8 @@ class Chain:
             else:
                 heat = 1000 * hot - 1000 * (hot - cold) * block // blocks
             temperature = heat * numerator * 1024 // (1_000_000 * denominator)
-            weight, least_of_rule = (max(1, (millionths or 0) * numerator // (1_000_000 * denominator)) for millionths in (self.weight, rule))
-            more = max(weight, least_of_rule) - weight
+            weight, of_rule = (max(1, has * numerator // (1_000_000 * denominator)) for has in (self.weight, rule or 0))
+            more = max(weight, of_rule) - weight
             length, within = min(BLOCK, steps - BLOCK * block), 0
             for _ in range(length):
                 within += self.hard() == (0 if rule is None else self.rules[0])
