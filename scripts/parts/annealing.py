@@ -132,8 +132,9 @@ class Chain:
     def total(self):
         return self.travel + self.rules[1]
 
-    def makes(self, move, weight, threshold):
-        """Makes the move, if it can be made and the score rises by no more than the threshold. Whether it did."""
+    def makes(self, move, weight, threshold, more=0):
+        """Makes the move, if it can be made and the score rises by no more than the threshold. Whether it did. A breach of a hard rule
+        weighs so much more than others."""
         kind, *numbers = move
         new = changed(self.rows, kind, numbers)
         if new is None:
@@ -142,13 +143,13 @@ class Chain:
         for team, row in new.items():
             (before, breaches), (after, others) = of_row(team, self.rows[team]), of_row(team, row)
             travel, doubled = travel + after - before, doubled + others - breaches
-        most = self.total() + weight * self.hard() + threshold
+        most = self.total() + weight * self.hard() + more * self.rules[0] + threshold
         if travel + weight * (doubled // 2) > most:
             return False
         rows = tuple(new.get(team, row) for team, row in enumerate(self.rows))
         if self.counts.rules:
             rules = self.counts.of_rules(rows)
-            if travel + rules[1] + weight * (doubled // 2 + rules[0]) > most:
+            if travel + rules[1] + weight * (doubled // 2 + rules[0]) + more * rules[0] > most:
                 return False
         self.rows, self.travel, self.doubled, self.rules = rows, travel, doubled, rules
         self.history = " ".join([kind, *(str(number + 1) for number in numbers)]), self.history
@@ -158,20 +159,21 @@ class Chain:
     def anneal(self, unit, leg, seed, stream, weights):
         """Takes the leg's steps. How many they were, and how many moves were made."""
         (numerator, denominator), (moves, hot, cold, steps) = unit, leg
-        generator, blocks, made, (_, least, most) = draws.Generator(seed, stream), -(-steps // BLOCK), 0, weights
+        generator, blocks, made, (_, least, most, rule) = draws.Generator(seed, stream), -(-steps // BLOCK), 0, weights
         for block in range(blocks):
             if heats(leg):
                 heat = 1000 * hottest(leg, BLOCK * block + 1)
             else:
                 heat = 1000 * hot - 1000 * (hot - cold) * block // blocks
             temperature = heat * numerator * 1024 // (1_000_000 * denominator)
-            weight = max(1, self.weight * numerator // (1_000_000 * denominator))
-            length, feasible = min(BLOCK, steps - BLOCK * block), 0
+            weight, of_rule = (max(1, has * numerator // (1_000_000 * denominator)) for has in (self.weight, rule or 0))
+            more = max(weight, of_rule) - weight
+            length, within = min(BLOCK, steps - BLOCK * block), 0
             for _ in range(length):
-                feasible += self.hard() == 0
+                within += self.hard() == (0 if rule is None else self.rules[0])
                 threshold = temperature * QUANTILES[generator.word() >> 24] >> 26
-                made += self.makes(draws.draw(generator, self.counts.teams, KINDS[moves]), weight, threshold)
-            after = self.weight + self.weight // 50 - self.weight * feasible // (25 * length)
+                made += self.makes(draws.draw(generator, self.counts.teams, KINDS[moves]), weight, threshold, more)
+            after = self.weight + self.weight // 50 - self.weight * within // (25 * length)
             self.weight = min(max(after, least), most)
             if heats(leg) and self.best:
                 return BLOCK * block + length, made

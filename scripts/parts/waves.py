@@ -14,9 +14,12 @@ KINDS = {
     REPAIR: ("homes", "part-rounds", "part-teams"),
     WIDE: ("homes", "rounds", "part-rounds", "part-teams"),
 }
-# what a breach of a hard limit weighs at first, at least and at most, in millionths of the unit: without tries and in the lowest, in those
-# of a repair, and in wide ones
-WEIGHTS, NEAR, WIDELY = (2_000_000, 300_000, 100_000_000), (10_000_000, 300_000, 25_000_000), (10_000_000, 300_000, 100_000_000)
+# what a breach of a hard limit weighs at first, at least and at most, in millionths of the unit, and at least one of a hard rule, if that
+# is apart: without tries and in the lowest, in those of a repair, and in wide ones
+WEIGHTS, NEAR = (2_000_000, 300_000, 100_000_000, None), (10_000_000, 300_000, 25_000_000, None)
+WIDELY = (10_000_000, 300_000, 100_000_000, None)
+# where rules' breaches weigh apart: in the first half, and after it until there are tries
+RULED_HOT, RULED = (2_000_000, 300_000, 10_000_000, 12_000_000), (2_000_000, 300_000, 10_000_000, 20_000_000)
 
 
 def parts(total, count):
@@ -24,9 +27,9 @@ def parts(total, count):
     return [total // count + (i < total % count) for i in range(count)]
 
 
-def chain(kind, steps):
+def chain(kind, steps, hot):
     if kind == RIGID:
-        return [(RIGID, 2000, 500, steps - 3 * steps // 10), (LOOSE, 600, 300, 3 * steps // 10)]
+        return [(RIGID, hot, 500, steps - 3 * steps // 10), (LOOSE, 600, 300, 3 * steps // 10)]
     return [(LOOSE, 1500, 300, steps)] if kind == LOOSE else [(FULL, 600, 150, steps)]
 
 
@@ -66,24 +69,48 @@ def cooled(leg, steps):
     return [(kinds, max(hottest(leg, steps), 100), 100, share - steps)] if steps < share else []
 
 
-def search(n, effort, goes_on=False):
-    chains = first_half(n, effort)
+def search(n, effort, goes_on=False, breaks_rules=False):
+    apart, chains = breaks_rules and n > 12, first_half(n, effort)
     left = effort - sum(steps for _, steps in chains)
     field = min(4, max(1, left // (5000 * n * n)), len(chains))
-    bouts = [chain(kind, steps) for kind, steps in chains]
+    bouts = [chain(kind, steps, 3000 if apart else 2000) for kind, steps in chains]
     if goes_on:
         bouts[0] = [(FULL, 300, 150, chains[0][1])]
-    came_to = yield "Start", field, bouts, WEIGHTS
-    if all(end is None for end in came_to):
-        low = [(FULL, 300, 800, WEIGHTS)] if left // 2 >= 4000 * n * n else []
-        yield from tries(left, [*low, (FULL, 1000, 5000, NEAR), (FULL, 1000, 20000, WIDELY)])
+    came_to = yield "Start", field, bouts, RULED_HOT if apart else WEIGHTS
+    was_feasible, weights = any(end is not None for end in came_to), RULED if apart else WEIGHTS
+    if not apart and not was_feasible:
+        yield from search_tries(n, left)
         return
-    level, peaks = left // ({1: 0, 2: 1, 3: 2, 4: 2}[field] + 2), 8 * ((500, 400, 600, 300) if n <= 12 else (300, 250, 400, 200))
+    levels = {1: 0, 2: 1, 3: 2, 4: 2}[field]
+    level, peaks = left // (levels + 2), 8 * ((500, 400, 600, 300) if n <= 12 else (300, 250, 400, 200))
     while field > 1:
         bouts = [[(FULL, peak, 150, steps) for peak, steps in zip(peaks, parts(share, 2))] for share in parts(level, field)]
         peaks, left, field = peaks[2:], left - level, (field + 1) // 2
-        yield "Own", field, bouts, WEIGHTS
-    yield from copies(left, FULL, peaks[:16], 150, WEIGHTS)
+        came_to = yield "Own", field, bouts, weights
+        was_feasible = was_feasible or any(end is not None for end in came_to)
+    # the peaks of the first cycles, after which tries come if nothing was feasible, and of the others
+    soon, later = peaks[:8], peaks[8:16]
+    for i, peak in enumerate(soon):
+        if left > 0:
+            steps = max(1, left // (16 - i))
+            left -= steps
+            came_to = yield "Copies", 1, copied(FULL, peak, 150, steps), weights
+            was_feasible = was_feasible or any(end is not None for end in came_to)
+    if was_feasible:
+        yield from copies(left, FULL, later, 150, weights)
+    else:
+        # the peaks come in turn, also after the tries: the next one has this place among the four
+        yield from search_tries(n, left, (len(soon) + 2 * levels) % 4)
+
+
+def search_tries(n, left, turn=0):
+    low = [(FULL, 300, 800, WEIGHTS)] if left // 2 >= 4000 * n * n else []
+    return tries(left, [*low, (FULL, 1000, 5000, NEAR), (FULL, 1000, 20000, WIDELY)], turn)
+
+
+def copied(kinds, peak, cold, steps):
+    """The bouts of four copies with one cycle."""
+    return [[(kinds, max(peak, cold), cold, share)] for share in parts(steps, 4)]
 
 
 def copies(left, kinds, peaks, cold, weights):
@@ -91,11 +118,11 @@ def copies(left, kinds, peaks, cold, weights):
         if left > 0:
             steps = max(1, left // (len(peaks) - i))
             left -= steps
-            yield "Copies", 1, [[(kinds, max(peak, cold), cold, share)] for share in parts(steps, 4)], weights
+            yield "Copies", 1, copied(kinds, peak, cold, steps), weights
 
 
-def tries(left, reaches):
-    """Tries to become feasible, with wider reaches while none does, and what follows on them."""
+def tries(left, reaches, turn=0):
+    """Tries to become feasible, with wider reaches while none does, and what follows on them, from the peak at this place."""
     for kinds, least, most, weights in reaches:
         if left == 0:
             return
@@ -107,7 +134,7 @@ def tries(left, reaches):
         if feasible:
             most = min(feasible)
             break
-    times = 4 * (500, 750, 250, 1000) if count == 4 else 4 * (1000, 850)
+    times = (5 * (500, 750, 250, 1000))[turn : turn + 16] if count == 4 else (5 * (1000, 850))[turn : turn + 8]
     yield from copies(left, kinds, [most * part // 1000 for part in times], 100, weights)
 
 

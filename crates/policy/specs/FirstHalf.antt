@@ -4,7 +4,7 @@ use Rattle.policy.specs.declared.bouts.Bout.{Bout}
 use Rattle.policy.specs.declared.first_half.FirstHalf.{FirstHalf}
 use Rattle.policy.specs.declared.legs.MoveSet.TheVariants.{Loose, Full}
 use Rattle.policy.specs.declared.numbers.TheConstants.{COOL, TEPID, WARM}
-use Rattle.policy.specs.Bouts.{rigid, single}
+use Rattle.policy.specs.Bouts.{hot_for, rigid, single}
 
 -- how many chains there are: one, and then groups of one or of three
 abbrev pub count_in : FirstHalf → ℕ
@@ -12,12 +12,12 @@ count_in f = 1 + f.groups * (if f.loose == 0 then 1 else 3)
 
 -- the first chain, with which there is something good early
 abbrev pub early_bout : FirstHalf → Bout
-early_bout f = if f.goes_on then single Full TEPID f.early else rigid f.early
+early_bout f = if f.goes_on then single Full TEPID f.early else rigid (hot_for f.apart) f.early
 
 -- a chain of two groups of three: the first and the last one, at the places 1 and 0, are rigid
 abbrev pub bout_at : FirstHalf → ℕ → Bout
 bout_at f place =
-    if f.loose == 0 || nat_le place 1 then rigid f.rigid
+    if f.loose == 0 || nat_le place 1 then rigid (hot_for f.apart) f.rigid
     else if f.few && place % 2 == 1 then single Full COOL f.loose
     else single Loose WARM f.loose
 

@@ -1,5 +1,5 @@
 -- Legs: stretches of steps of one chain.
-use Rattle.std.specs.Prelude.{ℕ, ◌≤◌, List, [], ◌∷◌, Option, Some, None}
+use Rattle.std.specs.Prelude.{ℕ, ◌≤◌, List, [], ◌∷◌, Option, Some, None, IfSome}
 use Rattle.moves.specs.declared.moves.MoveKind.{MoveKind}
 use Rattle.moves.specs.declared.moves.MoveKind.TheVariants.{Homes, Rounds, Teams, PartRounds, PartTeams}
 use Rattle.policy.specs.declared.legs.MoveSet.{MoveSet}
@@ -40,3 +40,4 @@ pub record IsWeightCourse (w : WeightCourse) : Type 0 where
   pub first_least : w.least ≤ w.first
   pub first_limit : w.first ≤ w.most
   pub bounded : w.most ≤ 1000000000
+  pub rule_limit : IfSome w.rule (λ rule. rule ≤ 1000000000)

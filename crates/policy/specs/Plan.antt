@@ -8,7 +8,7 @@ use Rattle.policy.specs.declared.legs.Leg.{Leg}
 use Rattle.policy.specs.declared.legs.LegEnd.{LegEnd}
 use Rattle.policy.specs.declared.legs.WeightCourse.{WeightCourse}
 use Rattle.policy.specs.declared.numbers.Heating.{Heating}
-use Rattle.policy.specs.declared.numbers.TheConstants.{LOW, NEAR, WIDE}
+use Rattle.policy.specs.declared.numbers.TheConstants.{LOW, NEAR, WIDE, RULED_HOT, RULED}
 use Rattle.policy.specs.declared.plan.Bouts.{Bouts}
 use Rattle.policy.specs.declared.plan.Bouts.TheVariants.{FirstHalf, Tries, Level, Copies}
 use Rattle.policy.specs.declared.plan.Plan.{Plan}
@@ -25,8 +25,21 @@ heating_of Low = LOW
 heating_of Near = NEAR
 heating_of Wide = WIDE
 
+-- what a breach weighs where rules' breaches weigh apart and there was no try yet
+abbrev pub ruled_in : Bouts → WeightCourse
+ruled_in (FirstHalf chains) = RULED_HOT
+ruled_in (Tries shares) = RULED
+ruled_in (Level shares) = RULED
+ruled_in (Copies shares) = RULED
+
+abbrev pub weights_among : Plan → Reach → WeightCourse
+weights_among p Untried = if p.apart then ruled_in p.bouts else LOW.weights
+weights_among p Low = LOW.weights
+weights_among p Near = NEAR.weights
+weights_among p Wide = WIDE.weights
+
 abbrev pub weights_of : Plan → WeightCourse
-weights_of p = (heating_of p.reach).weights
+weights_of p = weights_among p p.reach
 
 abbrev pub heat_of : Heating → Course
 heat_of h = Heats h.from h.to

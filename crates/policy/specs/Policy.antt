@@ -1,6 +1,6 @@
 -- The policy: what is left of the effort, and which wave may come next.
 use Rattle.std.specs.Prelude.{◌≡◌, ℕ, ◌+◌, ◌/◌, ◌==◌, ◌≤◌, min, if◌then◌else◌}
-use Rattle.std.specs.Prelude.{Bool, true, false, nat_le, Option, Some, None}
+use Rattle.std.specs.Prelude.{Bool, true, false, ◌&&◌, nat_le, nat_lt, Option, Some, None}
 use Rattle.policy.specs.declared.legs.Leg.{Leg}
 use Rattle.policy.specs.declared.legs.MoveSet.{MoveSet}
 use Rattle.policy.specs.declared.legs.MoveSet.TheVariants.{Full, Repair as RepairMoves}
@@ -37,6 +37,15 @@ goes_on_for Anew = false
 goes_on_for GoOn = true
 goes_on_for Repair = false
 
+-- whether rules' breaches weigh apart: where many teams play, unless the start is repaired
+abbrev pub searches_for : Aim → Bool
+searches_for Anew = true
+searches_for GoOn = true
+searches_for Repair = false
+
+abbrev pub weighs_apart : Facts → Bool
+weighs_apart facts = facts.breaks_rules && nat_lt FEW_TEAMS facts.teams && searches_for facts.aim
+
 -- by which cycles a second half of so many teams goes
 abbrev pub second_half_for : ℕ → Cycles
 second_half_for teams = if nat_le teams FEW_TEAMS then FEW_SECOND_HALF else SECOND_HALF
@@ -45,6 +54,7 @@ second_half_for teams = if nat_le teams FEW_TEAMS then FEW_SECOND_HALF else SECO
 pub record IsNewPlan (facts : Facts) (p : Plan) : Type 0 where
   pub teams : p.teams ≡ facts.teams
   pub goes_on : p.goes_on ≡ goes_on_for facts.aim
+  pub apart : p.apart ≡ weighs_apart facts
   pub moves : p.moves ≡ moves_for facts.aim
   pub reach : p.reach ≡ Untried
   pub cycles : p.cycles ≡ second_half_for facts.teams

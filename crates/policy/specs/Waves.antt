@@ -1,9 +1,9 @@
 -- Waves: which one comes next, and what it makes of the plan.
-use Rattle.std.specs.Prelude.{◌≡◌, ◌≢◌, ◌⊎◌, ℕ, ◌+◌, ◌%◌, ◌==◌, ◌≤◌, if◌then◌else◌, true}
+use Rattle.std.specs.Prelude.{◌≡◌, ◌≢◌, ◌⊎◌, ℕ, ◌+◌, ◌%◌, ◌==◌, ◌≤◌, ◌<◌, if◌then◌else◌, true}
 use Rattle.policy.specs.declared.bouts.Shares.{Shares}
 use Rattle.policy.specs.declared.legs.MoveSet.{MoveSet}
 use Rattle.policy.specs.declared.legs.MoveSet.TheVariants.{Full, Repair, WideRepair}
-use Rattle.policy.specs.declared.numbers.TheConstants.{AFTER_FEW, AFTER_MORE, LEAST_TRIES}
+use Rattle.policy.specs.declared.numbers.TheConstants.{AFTER_FEW, AFTER_MORE, LEAST_TRIES, PATIENCE}
 use Rattle.policy.specs.declared.plan.Bouts.{Bouts}
 use Rattle.policy.specs.declared.plan.Bouts.TheVariants.{FirstHalf, Tries, Level, Copies}
 use Rattle.policy.specs.declared.plan.Plan.{Plan}
@@ -14,9 +14,15 @@ use Rattle.policy.specs.declared.waves.Wave.{Wave}
 use Rattle.policy.specs.FirstHalf.{count_in}
 use Rattle.policy.specs.Plan.{heating_of}
 
--- a chain was feasible, or no try reaches further
+-- where rules' breaches weigh apart, tries wait until half of the cycles for one chain are through
+pub record DoesWait (p : Plan) : Type 0 where
+  pub apart : p.apart ≡ true
+  pub untried : p.reach ≡ Untried
+  pub patience : PATIENCE < p.cycles_left
+
+-- a chain was feasible, no try reaches further, or tries wait
 abbrev pub IsSettled : Plan → Type 0
-IsSettled p = (p.feasible ≡ true) ⊎ (p.reach ≡ Wide)
+IsSettled p = (p.feasible ≡ true) ⊎ (p.reach ≡ Wide) ⊎ DoesWait p
 
 -- a repair begins with tries, and they come as long as none was feasible
 abbrev pub WantsTries : ℕ → Plan → Type 0
@@ -24,7 +30,7 @@ WantsTries field p = ((field ≡ 0) × (p.moves ≢ Full)) ⊎ ((1 ≤ field) ×
 
 -- which bouts come next, with so many chains in the field
 abbrev pub AreDue : ℕ → Plan → Bouts → Type 0
-AreDue field p (FirstHalf chains) = (field ≡ 0) × (p.moves ≡ Full)
+AreDue field p (FirstHalf chains) = (field ≡ 0) × (p.moves ≡ Full) × (chains.apart ≡ p.apart)
 AreDue field p (Tries shares) = WantsTries field p
 AreDue field p (Level shares) = (2 ≤ field) × IsSettled p
 AreDue field p (Copies shares) = (field ≡ 1) × IsSettled p
@@ -83,4 +89,5 @@ pub record IsNextPlan (field : ℕ) (old new : Plan) (w : Wave) : Type 0 where
   pub next_peak : new.next_peak ≡ (old.next_peak + cycles_in old.bouts) % 4
   pub teams : new.teams ≡ old.teams
   pub goes_on : new.goes_on ≡ old.goes_on
+  pub apart : new.apart ≡ old.apart
   pub feasible : new.feasible ≡ old.feasible

@@ -3,14 +3,14 @@
 ghost use Rattle.std.specs.Prelude.{◌≡◌, ◌+◌, ◌^◌, ◌<◌, ◌≤◌};
 ghost use Rattle.policy.specs.Limits.{max_effort};
 ghost use Rattle.policy.specs.Legs.{IsCourse};
-ghost use Rattle.policy.specs.Bouts.{rigid};
+ghost use Rattle.policy.specs.Bouts.{hot_for, rigid};
 
 use crate::bouts::Bout;
-use crate::legs::{Leg, MoveSet};
+use crate::legs::{Course, Leg, MoveSet};
 use crate::numbers::{
-    COOL, EARLY_PART, FEW_LOOSE_LEAST, FEW_TEAMS, FIELD_LIMIT, FIELD_SPANS, HOT, LEAST_GROUPS,
-    LOOSE_LEAST, LOOSE_LIMIT, LOOSE_SPANS, MILD, MILD_TENTHS, RIGID_LIMIT, RIGID_SPANS, TEPID,
-    WARM,
+    COOL, EARLY_PART, FEW_LOOSE_LEAST, FEW_TEAMS, FIELD_LIMIT, FIELD_SPANS, HOT, HOTTER,
+    LEAST_GROUPS, LOOSE_LEAST, LOOSE_LIMIT, LOOSE_SPANS, MILD, MILD_TENTHS, RIGID_LIMIT,
+    RIGID_SPANS, TEPID, WARM,
 };
 
 /// More groups than any effort has.
@@ -22,6 +22,8 @@ const MAX_GROUPS: u64 = 10_000_000;
 pub(crate) struct FirstHalf {
     /// Whether the first chain goes on from the start. Otherwise it is rigid.
     goes_on: bool,
+    /// Whether rules' breaches weigh apart. Rigid chains are hotter then.
+    apart: bool,
     /// The steps of the first chain.
     early: u64,
     groups: u32,
@@ -43,9 +45,11 @@ pub(crate) struct FirstHalf {
 impl FirstHalf {
     ghost use Rattle.policy.specs.FirstHalf.{bout_in_first_half, count_in};
 
-    pub(crate) fn new(teams: u8, effort: u64, goes_on: bool) -> Self
+    pub(crate) fn new(teams: u8, effort: u64, goes_on: bool, apart: bool) -> Self
         requires teams { 4 ≤ teams }
         requires effort { effort ≤ max_effort }
+        ensures goes_on { result.goes_on ≡ goes_on }
+        ensures apart { result.apart ≡ apart }
     {
         let rigid_limit = (RIGID_SPANS * span(teams)).min(RIGID_LIMIT);
         let loose_limit = (LOOSE_SPANS * span(teams)).min(LOOSE_LIMIT);
@@ -64,6 +68,7 @@ impl FirstHalf {
         };
         FirstHalf {
             goes_on,
+            apart,
             early,
             groups,
             rigid: (rest / u64::from(groups)).saturating_sub(2 * loose),
@@ -93,9 +98,9 @@ impl FirstHalf {
         if number == 0 && self.goes_on {
             Bout::single(MoveSet::Full, TEPID, self.early)
         } else if number == 0 {
-            rigid(self.early)
+            rigid(hot(self.apart), self.early)
         } else if self.loose == 0 || place <= 1 {
-            rigid(self.rigid)
+            rigid(hot(self.apart), self.rigid)
         } else if self.few && place % 2 == 1 {
             Bout::single(MoveSet::Full, COOL, self.loose)
         } else {
@@ -143,10 +148,19 @@ fn least_groups(few: bool, least: u64, loose: u64) -> u32
     }
 }
 
+/// How a rigid chain cools first.
+fn hot(apart: bool) -> Course
+    ensures value { result ≡ hot_for apart }
+    ensures course { IsCourse result }
+{
+    if apart { HOTTER } else { HOT }
+}
+
 /// A rigid chain, which in the end draws rounds too.
-fn rigid(steps: u64) -> Bout
-    requires { steps ≤ max_effort }
-    ensures value { result ≡ rigid steps }
+fn rigid(hot: Course, steps: u64) -> Bout
+    requires course { IsCourse hot }
+    requires steps { steps ≤ max_effort }
+    ensures value { result ≡ rigid hot steps }
     ensures steps { 1 ≤ steps → 1 ≤ result.first.steps }
     ensures all { result.first.steps + result.second.steps ≡ steps }
     ensures first { IsCourse result.first.course }
@@ -156,7 +170,7 @@ fn rigid(steps: u64) -> Bout
     Bout {
         first: Leg {
             moves: MoveSet::Rigid,
-            course: HOT,
+            course: hot,
             steps: steps - mild,
         },
         second: Leg {

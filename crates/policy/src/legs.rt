@@ -88,4 +88,7 @@ pub struct WeightCourse {
     pub first: u64,
     pub least: u64,
     pub most: u64,
+    /// What a breach of a hard rule weighs, if that is apart: it is then at least this, and the weight of the others follows
+    /// the share of steps that break no other limit than rules. None: all breaches weigh alike.
+    pub rule: Option<u64>,
 }

@@ -9,6 +9,11 @@ pub(crate) const HOT: Course = Course::Cools {
     from: 2000,
     to: 500,
 };
+/// The same where rules' breaches weigh apart.
+pub(crate) const HOTTER: Course = Course::Cools {
+    from: 3000,
+    to: 500,
+};
 
 pub(crate) const MILD: Course = Course::Cools { from: 600, to: 300 };
 
@@ -108,6 +113,7 @@ pub(crate) const LOW: Heating = Heating {
         first: 2_000_000,
         least: 300_000,
         most: 100_000_000,
+        rule: None,
     },
 };
 /// Of the first tries of a repair.
@@ -118,6 +124,7 @@ pub(crate) const NEAR: Heating = Heating {
         first: 10_000_000,
         least: 300_000,
         most: 25_000_000,
+        rule: None,
     },
 };
 /// Of the last tries.
@@ -128,5 +135,23 @@ pub(crate) const WIDE: Heating = Heating {
         first: 10_000_000,
         least: 300_000,
         most: 100_000_000,
+        rule: None,
     },
 };
+
+/// Where rules' breaches weigh apart and there was no try yet: in the first half, and after it.
+pub(crate) const RULED_HOT: WeightCourse = WeightCourse {
+    first: 2_000_000,
+    least: 300_000,
+    most: 10_000_000,
+    rule: Some(12_000_000),
+};
+
+pub(crate) const RULED: WeightCourse = WeightCourse {
+    first: 2_000_000,
+    least: 300_000,
+    most: 10_000_000,
+    rule: Some(20_000_000),
+};
+/// There tries come only once so few cycles are left for one chain.
+pub(crate) const PATIENCE: u32 = 8;

@@ -8,7 +8,7 @@ use crate::first_half::{FirstHalf, field_for, span};
 use crate::legs::{Course, Leg, LegEnd, MoveSet, WeightCourse};
 use crate::numbers::{
     AFTER_FEW, AFTER_MORE, COPIES, Cycles, FEW_SECOND_HALF, FEW_TEAMS, Heating, LEAST_TRIES, LOW,
-    NEAR, SECOND_HALF, TRY_STEPS, UNIT, WIDE,
+    NEAR, PATIENCE, RULED, RULED_HOT, SECOND_HALF, TRY_STEPS, UNIT, WIDE,
 };
 use crate::waves::{Aim, Facts, Source, Wave};
 
@@ -41,6 +41,8 @@ pub(crate) struct Plan {
     teams: u8,
     /// Whether the first chain goes on from the start.
     goes_on: bool,
+    /// Whether rules' breaches weigh apart.
+    apart: bool,
     /// The kinds of moves that all legs after the first half draw.
     moves: MoveSet,
     bouts: Bouts,
@@ -64,9 +66,9 @@ pub(crate) struct Plan {
 impl Plan {
     ghost use Rattle.std.specs.Prelude.{◌≢◌, ◌+◌, ◌%◌, ◌^◌, ◌<◌, true, false};
     ghost use Rattle.policy.specs.Legs.{DoesCool, IsCourse, IsWeightCourse};
-    ghost use Rattle.policy.specs.Plan.{bout_of, cools_from, cycle_of, heat_of, heating_of, leg_after, plan_after, two_cycles, weights_of};
+    ghost use Rattle.policy.specs.Plan.{bout_of, cools_from, cycle_of, heat_of, heating_of, leg_after, plan_after, ruled_in, two_cycles, weights_of};
     ghost use Rattle.policy.specs.Policy.{IsNewPlan, IsNextWave, second_half_for};
-    ghost use Rattle.policy.specs.Waves.{IsNextPlan, IsSettled, ReachesFurther, WantsTries, cycles_in, moves_from};
+    ghost use Rattle.policy.specs.Waves.{DoesWait, IsNextPlan, IsSettled, ReachesFurther, WantsTries, cycles_in, moves_from};
 
     /// The plan before its first wave.
     pub(crate) fn new(facts: Facts) -> Self
@@ -77,6 +79,7 @@ impl Plan {
         Plan {
             teams: facts.teams,
             goes_on: facts.aim == Aim::GoOn,
+            apart: facts.breaks_rules && facts.teams > FEW_TEAMS && facts.aim != Aim::Repair,
             moves: match facts.aim {
                 Aim::Anew | Aim::GoOn => MoveSet::Full,
                 Aim::Repair => MoveSet::Repair,
@@ -130,7 +133,15 @@ impl Plan {
         ensures yes { result ≡ true → WantsTries field self.now }
         ensures no { result ≡ false → (1 ≤ field) × IsSettled self.now }
     {
-        field == 0 || (!self.feasible && self.reach != Reach::Wide)
+        field == 0 || (!self.feasible && self.reach != Reach::Wide && !self.waits())
+    }
+
+    /// Whether tries wait: where rules' breaches weigh apart chains go on at first though none is feasible.
+    fn waits(&self) -> bool
+        ensures yes { result ≡ true → DoesWait self.now }
+        ensures no { result ≡ false → ¬ DoesWait self.now }
+    {
+        self.apart && self.reach == Reach::Untried && self.cycles_left > PATIENCE
     }
 
     /// The wave of the first half.
@@ -140,7 +151,7 @@ impl Plan {
         ensures wave { IsNextWave 0 result }
         ensures plan { IsNextPlan 0 self.old self.new result }
     {
-        let first_half = FirstHalf::new(self.teams, left, self.goes_on);
+        let first_half = FirstHalf::new(self.teams, left, self.goes_on, self.apart);
         let rest = left.saturating_sub(first_half.steps);
         let bouts = first_half.bouts();
         let keep = field_for(self.teams, rest).min(bouts);
@@ -370,11 +381,25 @@ impl Plan {
         }
     }
 
+    /// The weights where rules' breaches weigh apart and there was no try yet.
+    fn ruled(&self) -> WeightCourse
+        ensures value { result ≡ ruled_in self.now.bouts }
+        ensures range { IsWeightCourse result }
+    {
+        match self.bouts {
+            Bouts::FirstHalf(_) => RULED_HOT,
+            _ => RULED,
+        }
+    }
+
     /// The weights of the present wave.
     pub(crate) fn weights(&self) -> WeightCourse
         ensures value { result ≡ weights_of self.now }
         ensures range { IsWeightCourse result }
     {
+        if self.apart && self.reach == Reach::Untried {
+            return self.ruled();
+        }
         self.heating().weights
     }
 }

@@ -14,6 +14,8 @@ pub struct Facts {
     /// The steps of all legs together.
     pub effort: u64,
     pub aim: Aim,
+    /// Whether the start breaks hard rules.
+    pub breaks_rules: bool,
 }
 
 /// The aim: what is to become of the start.

@@ -23,8 +23,8 @@ const EFFORTS: [u64; 13] = [
     1_000_000_000,
 ];
 
-/// A walk: the teams, the effort and the kind.
-type Setting = (u8, u64, Kind);
+/// A walk: the teams, the effort, the kind and whether the start breaks hard rules.
+type Setting = (u8, u64, Kind, bool);
 
 #[derive(Clone, Copy, Debug, PartialEq, Eq)]
 enum Kind {
@@ -49,46 +49,58 @@ const KINDS: [Kind; 6] = [
     Kind::Failing,
 ];
 
-const SIXTEEN: Setting = (16, 1_000_000, Kind::Search);
+const SIXTEEN: Setting = (16, 1_000_000, Kind::Search, false);
 
-const EIGHT: Setting = (8, 10_000_000, Kind::Search);
+const EIGHT: Setting = (8, 10_000_000, Kind::Search, false);
 
-const TWENTY: Setting = (20, 100_000_000, Kind::Search);
+const TWENTY: Setting = (20, 100_000_000, Kind::Search, false);
 
-const TWO_GROUPS: Setting = (20, 30_000_000, Kind::Search);
+const TWO_GROUPS: Setting = (20, 30_000_000, Kind::Search, false);
 
-const FORTY: Setting = (40, 12_345_678, Kind::Search);
+const FORTY: Setting = (40, 12_345_678, Kind::Search, false);
 
-const TWO_GO_ON: Setting = (14, 5_000_000, Kind::Search);
+const TWO_GO_ON: Setting = (14, 5_000_000, Kind::Search, false);
 
-const THREE_GO_ON: Setting = (14, 7_000_000, Kind::Search);
+const THREE_GO_ON: Setting = (14, 7_000_000, Kind::Search, false);
 
-const GOING: Setting = (16, 1_000_000, Kind::Going);
+const GOING: Setting = (16, 1_000_000, Kind::Going, false);
 
-const REPAIR: Setting = (12, 1_000_000, Kind::Repair);
+const REPAIR: Setting = (12, 1_000_000, Kind::Repair, false);
 
-const LONG_REPAIR: Setting = (12, 10_000_000, Kind::Repair);
+const LONG_REPAIR: Setting = (12, 10_000_000, Kind::Repair, false);
 
-const FAILING: Setting = (18, 3_333_333, Kind::Failing);
+const FAILING: Setting = (18, 3_333_333, Kind::Failing, false);
 
-const FEW_STEPS: Setting = (4, 50, Kind::Search);
+const FEW_STEPS: Setting = (4, 50, Kind::Search, false);
 
-const FEW_TRIES: Setting = (6, 7, Kind::Failing);
+const FEW_TRIES: Setting = (6, 7, Kind::Failing, false);
 
-const HEATED: Setting = (20, 10_000_000, Kind::Heated);
+const HEATED: Setting = (20, 10_000_000, Kind::Heated, false);
 
-const HEATED_TEN: Setting = (10, 10_000_000, Kind::Heated);
+const HEATED_TEN: Setting = (10, 10_000_000, Kind::Heated, false);
 
-const STUCK: Setting = (16, 1_000_000, Kind::Stuck);
+const STUCK: Setting = (16, 1_000_000, Kind::Stuck, false);
 
-const STUCK_TEN: Setting = (10, 10_000_000, Kind::Stuck);
+const STUCK_TEN: Setting = (10, 10_000_000, Kind::Stuck, false);
 
-const STUCK_FOUR: Setting = (4, 50, Kind::Stuck);
+const STUCK_FOUR: Setting = (4, 50, Kind::Stuck, false);
+
+const RULED: Setting = (16, 1_000_000, Kind::Search, true);
+
+const RULED_HEATED: Setting = (20, 10_000_000, Kind::Heated, true);
+
+const RULED_STUCK: Setting = (20, 30_000_000, Kind::Stuck, true);
+
+const RULED_GOING: Setting = (16, 1_000_000, Kind::Going, true);
+
+const RULED_FEW: Setting = (12, 10_000_000, Kind::Heated, true);
+
+const RULED_REPAIR: Setting = (18, 3_333_333, Kind::Failing, true);
 
 /// A setting, and what `scripts/oracle policy` has for it: the numbers of waves and legs, and the sums of both.
 type Row = (Setting, [u64; 4]);
 
-const ROWS: [Row; 18] = [
+const ROWS: [Row; 24] = [
     (SIXTEEN, [17, 68, 62_834, 12_985_776_099_164_480]),
     (EIGHT, [19, 86, 78_023, 46_443_952_391_968_615]),
     (TWENTY, [19, 94, 78_623, 311_063_755_050_862_537]),
@@ -107,12 +119,18 @@ const ROWS: [Row; 18] = [
     (STUCK, [19, 76, 78_068, 424_274_771_135_692_392]),
     (STUCK_TEN, [20, 86, 86_830, 477_020_975_561_216_241]),
     (STUCK_FOUR, [10, 18, 22_448, 24_963_032_183_610_521]),
+    (RULED, [17, 68, 62_834, 12_985_776_099_360_480]),
+    (RULED_HEATED, [27, 114, 155_220, 105_523_923_798_148_968]),
+    (RULED_STUCK, [30, 130, 191_245, 955_184_272_021_181_142]),
+    (RULED_GOING, [17, 67, 62_834, 12_985_776_099_143_294]),
+    (RULED_FEW, [18, 78, 70_476, 39_516_864_340_286_723]),
+    (RULED_REPAIR, [18, 72, 70_446, 391_221_218_913_717_439]),
 ];
 
 /// A leg that the twin shows for a setting: its wave, bout and place there, its moves, from, to and steps.
 type Shown = (Setting, [u32; 3], MoveSet, [u64; 3]);
 
-const LEGS: [Shown; 21] = [
+const LEGS: [Shown; 28] = [
     (SIXTEEN, [0, 1, 1], MoveSet::Loose, [600, 300, 131_250]),
     (EIGHT, [0, 3, 0], MoveSet::Full, [600, 150, 897_600]),
     (EIGHT, [0, 4, 0], MoveSet::Loose, [1500, 300, 897_600]),
@@ -149,6 +167,18 @@ const LEGS: [Shown; 21] = [
     (STUCK_TEN, [1, 0, 0], MoveSet::Full, [300, 800, 625_000]),
     (STUCK_TEN, [2, 3, 0], MoveSet::Full, [1000, 5000, 312_500]),
     (STUCK_TEN, [7, 3, 0], MoveSet::Full, [20_000, 100, 9765]),
+    (RULED, [0, 0, 0], MoveSet::Rigid, [3000, 500, 43_750]),
+    (RULED_HEATED, [1, 1, 1], MoveSet::Full, [250, 150, 416_666]),
+    (RULED_HEATED, [7, 3, 0], MoveSet::Full, [200, 150, 52_083]),
+    (RULED_HEATED, [13, 3, 0], MoveSet::Full, [700, 100, 13_020]),
+    (RULED_STUCK, [0, 6, 0], MoveSet::Rigid, [3000, 500, 918_750]),
+    (
+        RULED_STUCK,
+        [13, 3, 0],
+        MoveSet::Full,
+        [1000, 20_000, 117_187],
+    ),
+    (RULED_FEW, [0, 0, 0], MoveSet::Rigid, [2000, 500, 437_500]),
 ];
 
 /// A walk of a setting. No effort is above the most.
@@ -156,7 +186,7 @@ fn walk(setting: Setting) -> Walk
     ensures teams { 4 ≤ result.facts.teams }
     ensures effort { result.facts.effort ≤ max_effort }
 {
-    let (teams, effort, kind) = setting;
+    let (teams, effort, kind, breaks_rules) = setting;
     Walk {
         facts: Facts {
             teams: teams.max(4),
@@ -166,6 +196,7 @@ fn walk(setting: Setting) -> Walk
                 Kind::Going => Aim::GoOn,
                 Kind::Repair | Kind::Failing => Aim::Repair,
             },
+            breaks_rules,
         },
         feasible: match kind {
             Kind::Search | Kind::Going => Feasible::All,
@@ -194,7 +225,7 @@ fn check_walk(rt: &impl Abort, walk: Walk)
     });
     let holds = totals.taken == walk.facts.effort
         && totals.thirds == 0
-        && totals.waves <= 20
+        && totals.waves <= if walk.facts.breaks_rules { 30 } else { 20 }
         && (walk.facts.aim == Aim::Repair || totals.early <= (walk.facts.effort / 16).max(1))
         && overlapping == totals;
     assert!(rt; holds, "{walk:?} {totals:?} {overlapping:?}");
@@ -205,7 +236,18 @@ fn whole_efforts_are_taken(rt: HostRuntime) {
     for teams in 4..41 {
         for effort in EFFORTS {
             for kind in KINDS {
-                check_walk(&rt, walk((teams, effort, kind)));
+                check_walk(&rt, walk((teams, effort, kind, false)));
+            }
+        }
+    }
+}
+
+#[test]
+fn whole_efforts_are_taken_from_starts_that_break_rules(rt: HostRuntime) {
+    for teams in [12, 13, 14, 20, 40] {
+        for effort in EFFORTS {
+            for kind in KINDS {
+                check_walk(&rt, walk((teams, effort, kind, true)));
             }
         }
     }
@@ -214,7 +256,7 @@ fn whole_efforts_are_taken(rt: HostRuntime) {
 #[test]
 fn the_most_effort_is_taken(rt: HostRuntime) {
     for teams in [12, 40] {
-        check_walk(&rt, walk((teams, MAX_EFFORT, Kind::Search)));
+        check_walk(&rt, walk((teams, MAX_EFFORT, Kind::Search, false)));
     }
 }
 
@@ -248,14 +290,17 @@ fn legs_as_the_twin_has_them(rt: HostRuntime) {
     }
 }
 
-/// The weights of the first four waves, of which nothing was told.
-fn weights(aim: Aim) -> [WeightCourse; 4] {
+/// The weights of the first waves, of which nothing was told.
+fn weights(teams: u8, aim: Aim, breaks_rules: bool) -> [WeightCourse; 13]
+    requires { 4 ≤ teams }
+{
     let mut policy = Policy::new(Facts {
-        teams: 12,
+        teams,
         effort: 10_000_000,
         aim,
+        breaks_rules,
     });
-    let mut weights = [policy.weights(); 4];
+    let mut weights = [policy.weights(); 13];
     for wave in &mut weights {
         let _ = policy.wave();
         *wave = policy.weights();
@@ -265,14 +310,29 @@ fn weights(aim: Aim) -> [WeightCourse; 4] {
 
 #[test]
 fn weights_of_a_breach(rt: HostRuntime) {
-    let of = |first: u64, most: u64| WeightCourse {
+    let of = |first: u64, most: u64, rule: Option<u64>| WeightCourse {
         first,
         least: 300_000,
         most,
+        rule,
     };
-    let low = of(2_000_000, 100_000_000);
-    let near = of(10_000_000, 25_000_000);
-    let wide = of(10_000_000, 100_000_000);
-    assert_eq!(rt; weights(Aim::Anew), [low, low, near, wide]);
-    assert_eq!(rt; weights(Aim::Repair), [near, wide, wide, wide]);
+    let low = of(2_000_000, 100_000_000, None);
+    let near = of(10_000_000, 25_000_000, None);
+    let wide = of(10_000_000, 100_000_000, None);
+    let mut repair = [wide; 13];
+    repair[0] = near;
+    let mut search = [wide; 13];
+    search[0] = low;
+    search[1] = low;
+    search[2] = near;
+    assert_eq!(rt; weights(16, Aim::Repair, true), repair);
+    assert_eq!(rt; weights(12, Aim::Anew, true), search);
+    assert_eq!(rt; weights(16, Aim::GoOn, false), search);
+    // two levels and eight cycles come before the tries
+    let mut ruled = [of(2_000_000, 10_000_000, Some(20_000_000)); 13];
+    ruled[0] = of(2_000_000, 10_000_000, Some(12_000_000));
+    ruled[11] = low;
+    ruled[12] = near;
+    assert_eq!(rt; weights(16, Aim::Anew, true), ruled);
+    assert_eq!(rt; weights(16, Aim::GoOn, true), ruled);
 }

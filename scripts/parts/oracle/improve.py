@@ -67,7 +67,8 @@ class Entrant:
 def in_line(counts):
     """Each leg in the order of the line, with its entrant, its stream and the wave's weights. The entrant has to be told before the next
     leg is asked for."""
-    streams, numbers, field, policy, came_to = itertools.count(), itertools.count(1), [], waves.search(counts.teams, EFFORT), None
+    streams, numbers, field, came_to = itertools.count(), itertools.count(1), [], None
+    policy = waves.search(counts.teams, EFFORT, breaks_rules=annealing.Chain(counts).rules[0] > 0)
     while True:
         try:
             source, keep, bouts, weights = policy.send(came_to)

@@ -4,7 +4,8 @@ usage: scripts/oracle policy
 
 What a leg that heats comes to is made up, by arithmetic on its bout: it becomes feasible after
 one to five thousand steps, or never. So of the walks that are no repairs, "heated" and "stuck" ones have a first half without a feasible
-version, and the tries after it become feasible or never. Those that are "going" have a first chain that goes on from a given start."""
+version, and the tries after it become feasible or never. Those that are "going" have a first chain that goes on from a given start. Starts
+of the last walks break hard rules."""
 from ..waves import cooled, heats, repair, search
 
 WALKS = (
@@ -27,8 +28,14 @@ WALKS = (
     (16, 10**6, "stuck"),
     (10, 10**7, "stuck"),
     (4, 50, "stuck"),
+    (16, 10**6, "no", True),
+    (20, 10**7, "heated", True),
+    (20, 3 * 10**7, "stuck", True),
+    (16, 10**6, "going", True),
+    (12, 10**7, "heated", True),
+    (18, 3_333_333, "never", True),
 )
-SHOWN = ((0, 0, 0), (0, 1, 1), (0, 3, 0), (0, 4, 0), (0, 6, 0), (1, 0, 0), (1, 1, 1), (2, 0, 1), (2, 3, 0), (7, 3, 0))
+SHOWN = ((0, 0, 0), (0, 1, 1), (0, 3, 0), (0, 4, 0), (0, 6, 0), (1, 0, 0), (1, 1, 1), (2, 0, 1), (2, 3, 0), (7, 3, 0), (13, 3, 0))
 
 
 def legs_of(bout, number, feasible):
@@ -43,9 +50,9 @@ def legs_of(bout, number, feasible):
     return [leg, (moves, hot, 100, share - steps)], hot
 
 
-def show(n, effort, repairs):
-    print(f"{n} teams, {effort} steps, repairs: {repairs}")
-    policy = repair(effort) if repairs in ("feasible", "never") else search(n, effort, repairs == "going")
+def show(n, effort, repairs, breaks_rules=False):
+    print(f"{n} teams, {effort} steps, repairs: {repairs}{', breaks rules' if breaks_rules else ''}")
+    policy = repair(effort) if repairs in ("feasible", "never") else search(n, effort, repairs == "going", breaks_rules)
     feasible = {"no": "all", "going": "all", "feasible": "heated", "stuck": "never"}.get(repairs, repairs)
     number, legs, of_waves, of_legs, told, wave = 0, 0, 0, 0, [], next(policy)
     while wave:
