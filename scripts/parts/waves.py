@@ -19,7 +19,7 @@ KINDS = {
 WEIGHTS, NEAR = (2_000_000, 300_000, 100_000_000, None), (10_000_000, 300_000, 25_000_000, None)
 WIDELY = (10_000_000, 300_000, 100_000_000, None)
 # where rules' breaches weigh apart: in the first half, and after it until there are tries
-RULED_HOT, RULED = (2_000_000, 300_000, 10_000_000, 12_000_000), (2_000_000, 300_000, 10_000_000, 20_000_000)
+RULED_FIRST, RULED = (2_000_000, 300_000, 10_000_000, 12_000_000), (2_000_000, 300_000, 10_000_000, 20_000_000)
 
 
 def parts(total, count):
@@ -76,7 +76,7 @@ def search(n, effort, goes_on=False, breaks_rules=False):
     bouts = [chain(kind, steps, 3000 if apart else 2000) for kind, steps in chains]
     if goes_on:
         bouts[0] = [(FULL, 300, 150, chains[0][1])]
-    came_to = yield "Start", field, bouts, RULED_HOT if apart else WEIGHTS
+    came_to = yield "Start", field, bouts, RULED_FIRST if apart else WEIGHTS
     was_feasible, weights = any(end is not None for end in came_to), RULED if apart else WEIGHTS
     if not apart and not was_feasible:
         yield from search_tries(n, left)

@@ -35,7 +35,9 @@ impl Cost {
         requires { score_by weights self < 2 ^ 64 }
         ensures { result ≡ score_by weights self }
     {
-        self.total() + u64::from(weights.breach) * self.hard + u64::from(weights.rule) * self.of_rules
+        self.total()
+            + u64::from(weights.breach) * self.hard
+            + u64::from(weights.rule) * self.of_rules
     }
 
     /// The number to compare among feasible schedules: travel and soft.

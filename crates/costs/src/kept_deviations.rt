@@ -140,12 +140,7 @@ impl KeptDeviations {
         if !self.is_known {
             return None;
         }
-        part_of_known(
-            rule,
-            scope.main,
-            scope.flipping,
-            u64::from(self.kept[i]),
-        )
+        part_of_known(rule, scope.main, scope.flipping, u64::from(self.kept[i]))
     }
 
     /// Keeps the deviations after the exchange of the rules that it can alter, of so many rules.

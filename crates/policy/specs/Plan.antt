@@ -8,7 +8,7 @@ use Rattle.policy.specs.declared.legs.Leg.{Leg}
 use Rattle.policy.specs.declared.legs.LegEnd.{LegEnd}
 use Rattle.policy.specs.declared.legs.WeightCourse.{WeightCourse}
 use Rattle.policy.specs.declared.numbers.Heating.{Heating}
-use Rattle.policy.specs.declared.numbers.TheConstants.{LOW, NEAR, WIDE, RULED_HOT, RULED}
+use Rattle.policy.specs.declared.numbers.TheConstants.{LOW, NEAR, WIDE, RULED_FIRST, RULED}
 use Rattle.policy.specs.declared.plan.Bouts.{Bouts}
 use Rattle.policy.specs.declared.plan.Bouts.TheVariants.{FirstHalf, Tries, Level, Copies}
 use Rattle.policy.specs.declared.plan.Plan.{Plan}
@@ -27,7 +27,7 @@ heating_of Wide = WIDE
 
 -- what a breach weighs where rules' breaches weigh apart and there was no try yet
 abbrev pub ruled_in : Bouts → WeightCourse
-ruled_in (FirstHalf chains) = RULED_HOT
+ruled_in (FirstHalf chains) = RULED_FIRST
 ruled_in (Tries shares) = RULED
 ruled_in (Level shares) = RULED
 ruled_in (Copies shares) = RULED

@@ -140,7 +140,7 @@ pub(crate) const WIDE: Heating = Heating {
 };
 
 /// Where rules' breaches weigh apart and there was no try yet: in the first half, and after it.
-pub(crate) const RULED_HOT: WeightCourse = WeightCourse {
+pub(crate) const RULED_FIRST: WeightCourse = WeightCourse {
     first: 2_000_000,
     least: 300_000,
     most: 10_000_000,

@@ -8,7 +8,7 @@ use crate::first_half::{FirstHalf, field_for, span};
 use crate::legs::{Course, Leg, LegEnd, MoveSet, WeightCourse};
 use crate::numbers::{
     AFTER_FEW, AFTER_MORE, COPIES, Cycles, FEW_SECOND_HALF, FEW_TEAMS, Heating, LEAST_TRIES, LOW,
-    NEAR, PATIENCE, RULED, RULED_HOT, SECOND_HALF, TRY_STEPS, UNIT, WIDE,
+    NEAR, PATIENCE, RULED, RULED_FIRST, SECOND_HALF, TRY_STEPS, UNIT, WIDE,
 };
 use crate::waves::{Aim, Facts, Source, Wave};
 
@@ -387,7 +387,7 @@ impl Plan {
         ensures range { IsWeightCourse result }
     {
         match self.bouts {
-            Bouts::FirstHalf(_) => RULED_HOT,
+            Bouts::FirstHalf(_) => RULED_FIRST,
             _ => RULED,
         }
     }

@@ -135,8 +135,19 @@ fn rules_weigh_apart_from_other_limits(rt: HostRuntime) -> Result<(), Fail> {
     ];
     // of the two only the one whose rules weigh apart counts steps that break rules alone, so its weight falls
     let apart = twin_after(rt.alloc(), APART, &blocks)?;
-    let alike = twin_after(rt.alloc(), Asked { rule: None, ..APART }, &blocks)?;
-    check_holds_of(&rt, &(apart.weight, alike.weight), apart.weight < alike.weight);
+    let alike = twin_after(
+        rt.alloc(),
+        Asked {
+            rule: None,
+            ..APART
+        },
+        &blocks,
+    )?;
+    check_holds_of(
+        &rt,
+        &(apart.weight, alike.weight),
+        apart.weight < alike.weight,
+    );
     check_blocks(&rt, rt.alloc(), APART, &blocks)?;
     let ruled = Asked {
         sample: Sample::Ruled,
@@ -152,7 +163,18 @@ fn rules_weigh_no_less_than_other_limits(rt: HostRuntime) -> Result<(), Fail> {
         rule: Some(1),
         ..APART
     };
-    check_blocks(&rt, rt.alloc(), asked, &[(600_000, 1000), (510_000, 1000), (420_000, 1000), (330_000, 1000), (240_000, 1000)])?;
+    check_blocks(
+        &rt,
+        rt.alloc(),
+        asked,
+        &[
+            (600_000, 1000),
+            (510_000, 1000),
+            (420_000, 1000),
+            (330_000, 1000),
+            (240_000, 1000),
+        ],
+    )?;
     Ok(())
 }
 

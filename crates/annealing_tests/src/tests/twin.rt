@@ -70,7 +70,9 @@ impl Twin {
         let (numerator, denominator) = self.unit;
         let millionths = denominator.saturating_mul(1_000_000).max(1);
         let temperature = heat.saturating_mul(numerator).saturating_mul(1024) / millionths;
-        let whole = |weight: u128| (weight.saturating_mul(numerator) / millionths).clamp(1, 1_000_000);
+        let whole = |weight: u128| (weight.saturating_mul(numerator) / millionths).clamp(
+            1, 1_000_000,
+        );
         let weight = whole(self.weight);
         let rule = self.rule.map_or(weight, |rule| whole(u128::from(rule)));
         let weights = Weights {

@@ -94,7 +94,16 @@ fn check_act(rt: &impl Abort, board: &mut Board, act: Act) {
 fn check_sight(rt: &impl Abort, board: &Board, sight: Sight) {
     match sight {
         Sight::Version(version) => check_version(rt, board, version),
-        Sight::Cost(travel, hard, soft) => check_cost(rt, board, Cost { travel, hard, of_rules: 0, soft }),
+        Sight::Cost(travel, hard, soft) => check_cost(
+            rt,
+            board,
+            Cost {
+                travel,
+                hard,
+                of_rules: 0,
+                soft,
+            },
+        ),
         Sight::Best(at, total) => check_best(rt, board, best(at, total)),
         Sight::NoBest => check_best(rt, board, None),
         Sight::NoBestSchedule => check_no_best_schedule(rt, board),

@@ -1,4 +1,4 @@
-use Rattle.std.proofs.Common.{sym, ◌∙◌, ap, subst}
+use Rattle.std.proofs.Common.{sym, ◌∙◌, ap}
 use Rattle.fixtures.specs.Games.{Games}
 use Rattle.costs.specs.Costs.{cost_of}
 use Rattle.costs.specs.declared.cost.Cost.{Cost}
