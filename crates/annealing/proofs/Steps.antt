@@ -1,5 +1,5 @@
 -- A step of a block.
-use Rattle.std.proofs.Common.{◌≡◌, ℕ, ◌+◌, ◌≤◌, Bool, true, false, ◌==◌, if◌then◌else◌, List, Some, None, refl, sym, ◌∙◌, ap, subst, add-one, add-zero, arith}
+use Rattle.std.proofs.Common.{◌≡◌, ℕ, ◌+◌, ◌≤◌, Bool, true, false, if◌then◌else◌, List, Some, None, refl, sym, ◌∙◌, ap, subst, add-one, add-zero, arith}
 use Rattle.std.specs.Prelude.{Contains}
 use Rattle.std.specs.Int.{from_bool}
 use Rattle.rand_core.specs.Stream.{Stream}

@@ -1,5 +1,5 @@
 -- Temperatures and weights in distances.
-use Rattle.std.specs.Prelude.{ℕ, ◌-◌, ◌*◌, ◌/◌, ◌^◌, min, max}
+use Rattle.std.specs.Prelude.{ℕ, ◌-◌, ◌*◌, ◌/◌, ◌^◌, min, max, Option, Some, None}
 use Rattle.costs.specs.Costs.{alike}
 use Rattle.costs.specs.declared.weights.Weights.{Weights}
 use Rattle.annealing.specs.declared.unit.Unit.{Unit}
