@@ -16,7 +16,7 @@ COMPARISONS = (
     ("search-again", 60),
     ("improve-again", 6),
     ("repair",),
-    ("improve", 5, 1),
+    ("improve", 6, 1),
 )
 
 

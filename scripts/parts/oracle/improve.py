@@ -1,6 +1,6 @@
 """takes the legs of improvements again, step by step
 
-usage: scripts/oracle improve [RUNS [SEED [PROGRAM]]]     20 improvements with an effort of 1, of ten leagues in turn, the first one with
+usage: scripts/oracle improve [RUNS [SEED [PROGRAM]]]     20 improvements with an effort of 1, of 11 leagues in turn, the first one with
                                                           the seed 1 and each with the next one
        scripts/oracle improve text LEAGUE SEED < TEXT     one text of such an improvement
 
@@ -34,6 +34,8 @@ LEAGUES = (
     ("constant", 8),
     ("plane", 6),
     ("coasts", 8, "rules"),
+    # here rules' breaches weigh apart
+    ("circle", 14, "rules"),
     ("circle", 10),
     ("constant", 10, "phased"),
     ("coasts", 12),
