@@ -17,7 +17,7 @@ use Rattle.costs.specs.Costs.{hard_penalty, near_cost, penalty_of, soft_penalty,
 use Rattle.reports.specs.CostText.{CostLine, cost_lines, half, half_told, halves_told, halves_told_of, leaving_told, lines_below, moved_told}
 use Rattle.reports.specs.CostText.{moved_told_of, near, near_told, repeat, repeat_told, repeats_lower, repeats_told, repeats_told_after, rule_told}
 use Rattle.reports.specs.CostText.{rules_told, run, run_told, runs_told, runs_told_of, tour, tours_told, was, was_told}
-use Rattle.reports.specs.Figures.{AddsUp, hard_in, soft_in, told_cost, travel_in}
+use Rattle.reports.specs.Figures.{AddsUp, hard_in, of_rules_in, soft_in, told_cost, travel_in}
 use Rattle.reports.specs.Runs.{is_over, ended_streak}
 use Rattle.reports.proofs.Parts.{half_count, parts_add_up, parts_cost, repeat_count, window_count}
 
@@ -77,6 +77,10 @@ rule_travel g i (Some rule) = refl
 rule_hard : (g : Games) (i : ℕ) (rule : Option Rule) → sum_by hard_in (rule_told g i rule) ≡ penalty_of hard_penalty g rule
 rule_hard g i None = refl
 rule_hard g i (Some rule) = omega arith
+
+rule_of_rules : (g : Games) (i : ℕ) (rule : Option Rule) → sum_by of_rules_in (rule_told g i rule) ≡ penalty_of hard_penalty g rule
+rule_of_rules g i None = refl
+rule_of_rules g i (Some rule) = omega arith
 
 rule_soft : (g : Games) (i : ℕ) (rule : Option Rule) → sum_by soft_in (rule_told g i rule) ≡ penalty_of soft_penalty g rule
 rule_soft g i None = refl
@@ -167,6 +171,14 @@ module _ (l : LeagueData) (g : Games) where
       (told_below hard_in _ _ (λ i. rule_hard g i (slice_get l.rules i)) (length l.rules)) (near_none hard_in (λ price moved. refl))
       (moved_none hard_in (λ home away before now. refl)) ∙ omega arith
 
+  of_rules_told : sum_by of_rules_in (cost_lines l g) ≡ sum_over_rules hard_penalty l.rules g
+  unfolding sum_over_rules
+  of_rules_told =
+      by_parts of_rules_in (tours_none of_rules_in (λ team travel. refl)) (runs_none of_rules_in (λ team home first last windows. refl))
+      (repeats_none of_rules_in (λ low high first second. refl)) (halves_none of_rules_in (λ low high first second. refl))
+      (told_below of_rules_in _ _ (λ i. rule_of_rules g i (slice_get l.rules i)) (length l.rules)) (near_none of_rules_in (λ price moved. refl))
+      (moved_none of_rules_in (λ home away before now. refl)) ∙ omega arith
+
   soft_told : sum_by soft_in (cost_lines l g) ≡ sum_over_rules soft_penalty l.rules g + near_cost l g
   unfolding sum_over_rules
   soft_told =
@@ -178,7 +190,7 @@ module _ (l : LeagueData) (g : Games) where
 
   -- in all
   lines_told : told_cost (cost_lines l g) ≡ parts_cost l g
-  lines_told = rw (travel_told, hard_told, soft_told) refl
+  lines_told = rw (travel_told, hard_told, of_rules_told, soft_told) refl
 
 pub adds_up : (l : LeagueData) (g : Games) → IsLeague l → IsDoubleRoundRobin g → AddsUp l g
 adds_up l g is_league is_round_robin = lines_told l g ∙ parts_add_up l g is_league is_round_robin

@@ -31,6 +31,7 @@ parts_cost l g = record {
   travel = sum_below g.teams (travel_of l g);
   hard = sum_below g.teams (window_count g l.at_most) + unless_free l (repeat_count g) + sum_over_rules hard_penalty l.rules g +
       where_phased l (half_count g);
+  of_rules = sum_over_rules hard_penalty l.rules g;
   soft = sum_over_rules soft_penalty l.rules g + near_cost l g;
 }
 

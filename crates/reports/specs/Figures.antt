@@ -19,6 +19,11 @@ hard_in (half low high first second) = 1
 hard_in (of_rule rule i deviation) = hard_penalty rule.weight deviation
 hard_in line = 0
 
+-- of that the deviation of a hard rule
+abbrev pub of_rules_in : CostLine → ℕ
+of_rules_in (of_rule rule i deviation) = hard_penalty rule.weight deviation
+of_rules_in line = 0
+
 -- of what is soft: the weighted deviation of a soft rule, and the price of the moved games
 abbrev pub soft_in : CostLine → ℕ
 soft_in (of_rule rule i deviation) = soft_penalty rule.weight deviation
@@ -27,7 +32,12 @@ soft_in line = 0
 
 -- lines, added up
 abbrev pub told_cost : List CostLine → Cost
-told_cost lines = record { travel = sum_by travel_in lines; hard = sum_by hard_in lines; soft = sum_by soft_in lines }
+told_cost lines = record {
+  travel = sum_by travel_in lines;
+  hard = sum_by hard_in lines;
+  of_rules = sum_by of_rules_in lines;
+  soft = sum_by soft_in lines;
+}
 
 -- the lines of a report add up to the cost, which its first line tells
 abbrev pub AddsUp : LeagueData → Games → Type 0

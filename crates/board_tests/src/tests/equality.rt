@@ -16,7 +16,7 @@ fn check_differ<T: PartialEq + Debug>(rt: &impl Abort, values: &[T]) {
     }
 }
 
-fn costs() -> [Cost; 4] {
+fn costs() -> [Cost; 5] {
     let cost = Cost {
         travel: 1,
         hard: 2,
