@@ -63,8 +63,8 @@ pub(crate) fn gone_on<R: Wait, G: Gate>(
     plan: LegPlan,
     weights: WeightCourse,
 ) -> Result<Annealed, Fail>
-    requires { IsLeg plan.leg }
-    requires { IsWeightCourse weights }
+    requires leg { IsLeg plan.leg }
+    requires weights { IsWeightCourse weights }
 {
     let league = chain.board.league();
     let conditions = Conditions {
