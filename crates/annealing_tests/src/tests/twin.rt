@@ -102,7 +102,8 @@ impl Twin {
         let rise = temperature.saturating_mul(u128::from(quantile)) / 67_108_864;
         let teams = self.board.league().teams();
         let rounds = each_round(teams);
-        if weights.breach < 1 || kinds.is_empty() || kinds.len() > 5 {
+        let both = u64::from(weights.breach).saturating_add(u64::from(weights.rule));
+        if weights.breach < 1 || both > 4_294_967_295 || kinds.is_empty() || kinds.len() > 5 {
             return;
         }
         let draws = Draws {
