@@ -149,11 +149,6 @@ fn rules_weigh_apart_from_other_limits(rt: HostRuntime) -> Result<(), Fail> {
         apart.weight < alike.weight,
     );
     check_blocks(&rt, rt.alloc(), APART, &blocks)?;
-    let ruled = Asked {
-        sample: Sample::Ruled,
-        ..APART
-    };
-    check_blocks(&rt, rt.alloc(), ruled, &blocks)?;
     Ok(())
 }
 
