@@ -139,7 +139,7 @@ fn tried(
     Ok((made, board.version()))
 }
 
-/// On a board with ample room, where a tenth of the moves at least is made and a tenth isn't.
+/// On a board with ample room, where a twentieth of the moves at least is made and a twentieth isn't.
 fn check_league(
     rt: &impl Abort,
     alloc: Global,
@@ -148,9 +148,9 @@ fn check_league(
     count: u64,
 ) -> Result<(), Fail> {
     let (made, _) = tried(rt, alloc, (league, 4096), state, count)?;
-    let tenth = count / 10;
+    let twentieth = count / 20;
     let unmade = count.saturating_sub(made);
-    check_holds(rt, &(made, count), made >= tenth && unmade >= tenth);
+    check_holds(rt, &(made, count), made >= twentieth && unmade >= twentieth);
     Ok(())
 }
 
