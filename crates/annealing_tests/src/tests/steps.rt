@@ -133,7 +133,7 @@ fn rules_weigh_apart_from_other_limits(rt: HostRuntime) -> Result<(), Fail> {
         (330_000, 1000),
         (240_000, 1000),
     ];
-    // of the two only the one whose rules weigh apart counts steps that break rules alone, so its weight falls
+    // of the two only the one whose rules weigh apart counts steps that break rules alone, so its weight is less
     let apart = twin_after(rt.alloc(), APART, &blocks)?;
     let alike = twin_after(
         rt.alloc(),
