@@ -1,4 +1,4 @@
-pub mod chain
+pub mod ejection
 pub mod move_laws
 pub mod Sets
 pub mod ForCallers

@@ -6,18 +6,18 @@
 #![tactic(auto)]
 
 mod applying;
-mod chains;
 mod changed_games;
 mod checking;
+mod ejection_chains;
 mod fault;
 mod laws;
 mod moves;
 mod resolving;
 
 pub use applying::{apply, touched};
-pub use chains::{moved_rounds, moved_teams};
 pub use changed_games::would_change;
 pub use checking::check;
+pub use ejection_chains::{moved_rounds, moved_teams};
 pub use fault::MoveFault;
 pub use laws::{
     differs_in_each_touched, differs_where_touched, moves_are_exchanges, moves_back,

@@ -9,7 +9,7 @@ use crate::{Move, moved_rounds, moved_teams};
 use fixtures::{Exchange, Schedule};
 use league::{SlotSet, TeamSet};
 
-/// The exchange that a move is which `check` lets pass. A chain is walked once. Takes no memory.
+/// The exchange that a move is which `check` lets pass. An ejection chain is walked once. Takes no memory.
 pub fn exchange(schedule: &Schedule, mv: Move) -> Exchange
     requires { fault_of schedule.now mv ≡ Ok tt }
     ensures value { result ≡ exchange_of schedule.now mv }

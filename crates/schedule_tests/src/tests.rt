@@ -2,13 +2,13 @@
 
 mod allocations;
 mod applying;
-mod chains;
 mod changed_games;
 mod checking;
 mod checks;
 mod costs;
 mod deviations;
 mod drafts;
+mod ejection_chains;
 mod exchanges;
 mod halves;
 mod home_games;

@@ -1,5 +1,5 @@
 use Rattle.fixtures.proofs.ForCallers.{meets_cell}
-use Rattle.moves.proofs.chain.MetIn.{met_more, met_all}
+use Rattle.moves.proofs.ejection.MetIn.{met_more, met_all}
 use Rattle.moves.proofs.applying.teams_with_opponents.Goals as goal
 
 pub loop-round-preserved : goal.loop-round-preserved

@@ -1,4 +1,4 @@
-use Rattle.moves.proofs.chain.MetIn.{IsMetIn}
+use Rattle.moves.proofs.ejection.MetIn.{IsMetIn}
 use Rattle.moves.proofs.applying.teams_with_opponents.Given as goal
 
 abbrev pub invariant-loop-round : goal.invariant-loop-round

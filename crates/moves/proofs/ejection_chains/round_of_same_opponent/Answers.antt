@@ -1,5 +1,5 @@
 use Rattle.std.proofs.Common.{rules}
-use Rattle.moves.proofs.chains.round_of_same_opponent.Goals as goal
+use Rattle.moves.proofs.ejection_chains.round_of_same_opponent.Goals as goal
 
 pub returns-then-cell-clause-value : goal.returns-then-cell-clause-value
 returns-then-cell-clause-value c = search rules

@@ -1,13 +1,13 @@
 use Rattle.std.proofs.Common.{◌≡◌, ◌-◌, ◌^◌, false}
 use Rattle.league.specs.Limits.{max_rounds}
 use Rattle.league.specs.Sets.{has, IsBelow}
-use Rattle.moves.proofs.chain.Added.{with_added}
-use Rattle.moves.proofs.chain.RoundChain.{IsRoundChain}
-use Rattle.moves.proofs.chains.moved_rounds.Given as goal
+use Rattle.moves.proofs.ejection.Added.{with_added}
+use Rattle.moves.proofs.ejection.EjectedRounds.{IsEjectedRounds}
+use Rattle.moves.proofs.ejection_chains.moved_rounds.Given as goal
 
 abbrev pub invariant-loop-found : goal.invariant-loop-found
 invariant-loop-found l = record {
-  chain : IsRoundChain l.schedule l.i l.j l.k l.round (with_added l.round (has l.found));
+  ejected : IsEjectedRounds l.schedule l.i l.j l.k l.round (with_added l.round (has l.found));
   fresh : has l.found l.round ≡ false;
   below : IsBelow max_rounds l.found;
 }

@@ -1,5 +1,5 @@
-//! The chains of a partial move: the teams that exchange two rounds, and the rounds in which two teams are
-//! exchanged. Both are chains that come back to their start, and each is walked once along.
+//! The ejection chains of a partial move: the teams that exchange two rounds, and the rounds in which two teams are
+//! exchanged. Each comes back to its start, and is walked once along.
 
 ghost use Rattle.std.specs.Prelude.{◌≡◌, ◌≢◌, ℕ, ◌<◌, ◌≤◌, Ok};
 ghost use Rattle.league.specs.Sets.{has};

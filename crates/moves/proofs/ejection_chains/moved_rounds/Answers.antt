@@ -5,16 +5,16 @@ use Rattle.league.specs.Sets.{has, with_number}
 use Rattle.league.proofs.ForCallers.{with_number-grows}
 use Rattle.fixtures.specs.Closed.{IsLeastClosed, shares_opponent}
 use Rattle.fixtures.proofs.ForCallers.{member_least_closed, shares_in_range, are_apart_never}
-use Rattle.moves.proofs.chain.Added.{with_added}
+use Rattle.moves.proofs.ejection.Added.{with_added}
 use Rattle.moves.proofs.move_laws.Checked.{IsPartTeams, part_teams-checked}
-use Rattle.moves.proofs.chain.RoundChain.{Follows-cell, IsRoundChain-start, IsLeastClosed-chain, IsRoundChain-next, next-false}
-use Rattle.moves.proofs.chains.moved_rounds.Goals as goal
+use Rattle.moves.proofs.ejection.EjectedRounds.{Follows-cell, IsEjectedRounds-start, IsLeastClosed-ejected, IsEjectedRounds-next, next-false}
+use Rattle.moves.proofs.ejection_chains.moved_rounds.Goals as goal
 
 pub loop-found-init : goal.loop-found-init
 loop-found-init c =
     let checked = part_teams-checked c.args.schedule.now c.args.i c.args.j c.args.k c.requires.checked in
     record {
-      chain = IsRoundChain-start c.args.schedule.now c.args.i c.args.j c.args.k
+      ejected = IsEjectedRounds-start c.args.schedule.now c.args.i c.args.j c.args.k
           (has c.empty-found.result) _ checked.in_range
           (are_apart_never c.args.schedule.now c.args.i c.args.j c.args.k checked.apart)
           c.empty-found.ensures.members (λ r. refl);
@@ -29,13 +29,13 @@ pub round_of_same_opponent-next-requires : goal.round_of_same_opponent-next-requ
 round_of_same_opponent-next-requires c = record {
   i = (checked_at c).pair.home_in;
   j = (checked_at c).pair.away_in;
-  round = c.loop-found.invariant.chain.last_below;
-  first = λ e. c.loop-found.invariant.chain.last_apart ((checked_at c).pair, inl e);
-  second = λ e. c.loop-found.invariant.chain.last_apart ((checked_at c).pair, inr e);
+  round = c.loop-found.invariant.ejected.last_below;
+  first = λ e. c.loop-found.invariant.ejected.last_apart ((checked_at c).pair, inl e);
+  second = λ e. c.loop-found.invariant.ejected.last_apart ((checked_at c).pair, inr e);
 }
 
 pub with-found-requires : goal.with-found-requires
-with-found-requires c = omega (arith, c.loop-found.invariant.chain.last_below)
+with-found-requires c = omega (arith, c.loop-found.invariant.ejected.last_below)
 
 least : (c : goal.Then-next-k) →
     IsLeastClosed (shares_opponent c.args.schedule.now c.args.i c.args.j) c.args.k (has c.with-found.result)
@@ -43,15 +43,15 @@ least c =
     let checked = part_teams-checked c.args.schedule.now c.args.i c.args.j c.args.k c.requires.checked in
     let follows =
     Follows-cell _ c.round_of_same_opponent-next.ensures.round_robin _ _ _ _ checked.pair.home_in checked.pair.away_in
-    c.loop-found.invariant.chain.last_below c.loop-found.invariant.chain.last_apart
+    c.loop-found.invariant.ejected.last_below c.loop-found.invariant.ejected.last_apart
     c.round_of_same_opponent-next.ensures.value in
     subst (IsLeastClosed (shares_opponent c.args.schedule.now c.args.i c.args.j) c.args.k)
     (fun_ext (λ r. sym (c.with-found.ensures.members r)))
-    (IsLeastClosed-chain c.args.schedule.now c.round_of_same_opponent-next.ensures.round_robin c.args.i
+    (IsLeastClosed-ejected c.args.schedule.now c.round_of_same_opponent-next.ensures.round_robin c.args.i
     c.args.j c.args.k
     c.loop-found.round _ (with_added c.loop-found.round (has c.loop-found.found)) checked.pair.home_in
     checked.pair.away_in
-    c.loop-found.invariant.chain follows c.if-next-k.true)
+    c.loop-found.invariant.ejected follows c.if-next-k.true)
 
 pub returns-then-next-k-clause-least : goal.returns-then-next-k-clause-least
 returns-then-next-k-clause-least c = least c
@@ -80,20 +80,20 @@ loop-found-preserved c =
     let checked = part_teams-checked c.args.schedule.now c.args.i c.args.j c.args.k c.requires.checked in
     let follows =
     Follows-cell _ c.round_of_same_opponent-next.ensures.round_robin _ _ _ _ checked.pair.home_in checked.pair.away_in
-    c.loop-found.invariant.chain.last_below c.loop-found.invariant.chain.last_apart
+    c.loop-found.invariant.ejected.last_below c.loop-found.invariant.ejected.last_apart
     c.round_of_same_opponent-next.ensures.value in
     record {
-      chain = IsRoundChain-next c.args.schedule.now c.round_of_same_opponent-next.ensures.round_robin c.args.i
+      ejected = IsEjectedRounds-next c.args.schedule.now c.round_of_same_opponent-next.ensures.round_robin c.args.i
           c.args.j c.args.k
           c.loop-found.round _ (with_added c.loop-found.round (has c.loop-found.found)) checked.pair.home_in
           checked.pair.away_in
-          c.loop-found.invariant.chain follows c.if-next-k.false _
+          c.loop-found.invariant.ejected follows c.if-next-k.false _
           (λ r. ap (λ b. eqb r c.round_of_same_opponent-next.result || b) (c.with-found.ensures.members r));
       fresh = c.with-found.ensures.members c.round_of_same_opponent-next.result ∙
           next-false c.args.schedule.now c.round_of_same_opponent-next.ensures.round_robin c.args.i c.args.j c.args.k
           c.loop-found.round _ (with_added c.loop-found.round (has c.loop-found.found)) checked.pair.home_in
           checked.pair.away_in
-          c.loop-found.invariant.chain follows c.if-next-k.false;
+          c.loop-found.invariant.ejected follows c.if-next-k.false;
       below = c.with-found.ensures.below max_rounds c.loop-found.invariant.below
-          (omega (arith, c.loop-found.invariant.chain.last_below));
+          (omega (arith, c.loop-found.invariant.ejected.last_below));
     }

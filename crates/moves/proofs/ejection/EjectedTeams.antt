@@ -1,5 +1,5 @@
--- The chain of the teams that follow a team in a partial exchange of rounds k and l: its opponent in round k, that
--- one's opponent in round l, and so on in turn, until the first team comes back.
+-- The ejection chain of the teams that follow a team in a partial exchange of rounds k and l: its opponent in round k,
+-- that one's opponent in round l, and so on in turn, until the first team comes back.
 use Rattle.std.proofs.Common.{◌≡◌, ◌≢◌, ℕ, ◌<◌, inl, inr, Bool, false, refl, sym, subst}
 use Rattle.std.specs.Prelude.{IsTrue}
 use Rattle.std.proofs.lemmas.Bool.{cases_eq, false_from_ne_true}
@@ -7,11 +7,11 @@ use Rattle.fixtures.specs.Games.{Games, IsDoubleRoundRobin}
 use Rattle.fixtures.specs.Closed.{IsLeastClosed, plays_in}
 use Rattle.fixtures.proofs.ForCallers.{IsReached, reached_start, reached_step, Meets, meets_swapped, same_opponent}
 use Rattle.fixtures.proofs.ForCallers.{plays_in_first, plays_in_second, plays_in_cases}
-use Rattle.moves.proofs.chain.Added.{Adds, Adds-new, Adds-old, Adds-cases, only-new}
+use Rattle.moves.proofs.ejection.Added.{Adds, Adds-new, Adds-old, Adds-cases, only-new}
 
--- The set has the chain from the start to `last`, which was entered over round l: the set without `last` is closed
--- under opponents in round k, and the set without the start under those in round l.
-pub record IsTeamChain (g : Games) (k l start last : ℕ) (set : ℕ → Bool) : Type 0 where
+-- The set has the ejection chain from the start to `last`, which was entered over round l: the set without `last` is
+-- closed under opponents in round k, and the set without the start under those in round l.
+pub record IsEjectedTeams (g : Games) (k l start last : ℕ) (set : ℕ → Bool) : Type 0 where
   pub start_in : IsTrue (set start)
   pub last_in : IsTrue (set last)
   pub last_below : last < g.teams
@@ -19,9 +19,9 @@ pub record IsTeamChain (g : Games) (k l start last : ℕ) (set : ℕ → Bool) :
   pub in_first : (t u : ℕ) → IsTrue (set t) → t ≢ last → Meets g t u k → IsTrue (set u) × (u ≢ last)
   pub in_second : (t u : ℕ) → IsTrue (set t) → t ≢ start → Meets g t u l → IsTrue (set u) × (u ≢ start)
 
-pub IsTeamChain-start : (g : Games) (k l start : ℕ) (none set : ℕ → Bool) → start < g.teams →
-    ((t : ℕ) → none t ≡ false) → Adds start none set → IsTeamChain g k l start start set
-IsTeamChain-start g k l start none set below empty adds = record {
+pub IsEjectedTeams-start : (g : Games) (k l start : ℕ) (none set : ℕ → Bool) → start < g.teams →
+    ((t : ℕ) → none t ≡ false) → Adds start none set → IsEjectedTeams g k l start start set
+IsEjectedTeams-start g k l start none set below empty adds = record {
   start_in = Adds-new start none set adds;
   last_in = Adds-new start none set adds;
   last_below = below;
@@ -34,14 +34,14 @@ IsTeamChain-start g k l start none set below empty adds = record {
     only : (t : ℕ) → IsTrue (set t) → t ≡ start
     only = only-new start none set empty adds
 
--- the chain goes on from its last team over `middle` to `next`
+-- the ejection chain goes on from its last team over `middle` to `next`
 module _ (g : Games) (rr : IsDoubleRoundRobin g) (k l start last middle next : ℕ) (set more : ℕ → Bool)
-    (chain : IsTeamChain g k l start last set) (to_middle : Meets g last middle k)
+    (ejected : IsEjectedTeams g k l start last set) (to_middle : Meets g last middle k)
     (to_next : Meets g middle next l) (adds : Adds middle set more) where
   -- the team in the middle is new
   middle_out : IsTrue (set middle) → ⊥
   middle_out here =
-      (chain.in_first middle last here (λ e. to_middle.0.distinct (sym e)) (meets_swapped g last middle k to_middle)).1
+      (ejected.in_first middle last here (λ e. to_middle.0.distinct (sym e)) (meets_swapped g last middle k to_middle)).1
       refl
 
   pub middle-false : set middle ≡ false
@@ -49,7 +49,7 @@ module _ (g : Games) (rr : IsDoubleRoundRobin g) (k l start last middle next : �
 
   middle_reached : IsReached (plays_in g k l) start middle
   middle_reached =
-      reached_step (plays_in g k l) start last middle (chain.reached last chain.last_in)
+      reached_step (plays_in g k l) start last middle (ejected.reached last ejected.last_in)
       (plays_in_first g k l last middle to_middle)
 
   next_reached : IsReached (plays_in g k l) start next
@@ -60,7 +60,7 @@ module _ (g : Games) (rr : IsDoubleRoundRobin g) (k l start last middle next : �
   more_reached t here =
       elim (Adds-cases middle set more adds t here) [
         | inl e ↦ subst (IsReached (plays_in g k l) start) (sym e) middle_reached
-        | inr old ↦ chain.reached t old
+        | inr old ↦ ejected.reached t old
       ]
 
   -- with the team in the middle, the set has the opponents in round k of all its teams
@@ -70,19 +70,19 @@ module _ (g : Games) (rr : IsDoubleRoundRobin g) (k l start last middle next : �
         | inl e ↦
             let is : last ≡ u = same_opponent g rr middle last u k (meets_swapped g last middle k to_middle)
             (subst (λ m. Meets g m u k) e are) in
-            subst (λ v. IsTrue (more v)) is (Adds-old middle set more adds last chain.last_in)
+            subst (λ v. IsTrue (more v)) is (Adds-old middle set more adds last ejected.last_in)
         | inr old ↦ elim (cases_eq t last) [
           | inl e ↦
               let is : middle ≡ u = same_opponent g rr last middle u k to_middle (subst (λ m. Meets g m u k) e are) in
               subst (λ v. IsTrue (more v)) is (Adds-new middle set more adds)
-          | inr other ↦ Adds-old middle set more adds u (chain.in_first t u old other are).0
+          | inr other ↦ Adds-old middle set more adds u (ejected.in_first t u old other are).0
         ]
       ]
 
-  -- Where the chain comes back to its start, the set is closed.
-  pub IsLeastClosed-chain : next ≡ start → IsLeastClosed (plays_in g k l) start more
-  IsLeastClosed-chain back = record {
-    has_start = Adds-old middle set more adds start chain.start_in;
+  -- Where the ejection chain comes back to its start, the set is closed.
+  pub IsLeastClosed-ejected : next ≡ start → IsLeastClosed (plays_in g k l) start more
+  IsLeastClosed-ejected back = record {
+    has_start = Adds-old middle set more adds start ejected.start_in;
     closed = λ t u plays here. elim (plays_in_cases g k l t u plays) [
       | inl are ↦ first_closed t u here are
       | inr are ↦ second_closed t u here are
@@ -98,20 +98,20 @@ module _ (g : Games) (rr : IsDoubleRoundRobin g) (k l start last middle next : �
           elim (Adds-cases middle set more adds t here) [
             | inl e ↦
                 let is : start ≡ u = same_opponent g rr middle start u l to_start (subst (λ m. Meets g m u l) e are) in
-                subst (λ v. IsTrue (more v)) is (Adds-old middle set more adds start chain.start_in)
+                subst (λ v. IsTrue (more v)) is (Adds-old middle set more adds start ejected.start_in)
             | inr old ↦ elim (cases_eq t start) [
               | inl e ↦
                   let is : middle ≡ u = same_opponent g rr start middle u l (meets_swapped g middle start l to_start)
                   (subst (λ m. Meets g m u l) e are) in
                   subst (λ v. IsTrue (more v)) is (Adds-new middle set more adds)
-              | inr other ↦ Adds-old middle set more adds u (chain.in_second t u old other are).0
+              | inr other ↦ Adds-old middle set more adds u (ejected.in_second t u old other are).0
             ]
           ]
 
   -- Otherwise it is one team longer.
-  pub IsTeamChain-next : next ≢ start → (most : ℕ → Bool) → Adds next more most → IsTeamChain g k l start next most
-  IsTeamChain-next other most adds_next = record {
-    start_in = Adds-old next more most adds_next start (Adds-old middle set more adds start chain.start_in);
+  pub IsEjectedTeams-next : next ≢ start → (most : ℕ → Bool) → Adds next more most → IsEjectedTeams g k l start next most
+  IsEjectedTeams-next other most adds_next = record {
+    start_in = Adds-old next more most adds_next start (Adds-old middle set more adds start ejected.start_in);
     last_in = Adds-new next more most adds_next;
     last_below = to_next.0.away_in;
     reached = λ t here. elim (Adds-cases next more most adds_next t here) [
@@ -134,7 +134,7 @@ module _ (g : Games) (rr : IsDoubleRoundRobin g) (k l start last middle next : �
             let is : next ≡ u = same_opponent g rr middle next u l to_next (subst (λ m. Meets g m u l) e are) in
             subst (λ v. IsTrue (most v) × (v ≢ start)) is (Adds-new next more most adds_next, other)
         | inr older ↦
-            let inside = chain.in_second t u older not_start are in
+            let inside = ejected.in_second t u older not_start are in
             (kept u (Adds-old middle set more adds u inside.0), inside.1)
       ]
     ];
@@ -144,12 +144,12 @@ module _ (g : Games) (rr : IsDoubleRoundRobin g) (k l start last middle next : �
       kept = Adds-old next more most adds_next
 
       middle_other : middle ≢ start
-      middle_other e = middle_out (subst (λ v. IsTrue (set v)) (sym e) chain.start_in)
+      middle_other e = middle_out (subst (λ v. IsTrue (set v)) (sym e) ejected.start_in)
 
       -- the next team is new too
       next_out : IsTrue (more next) → ⊥
       next_out here =
           elim (Adds-cases middle set more adds next here) [
             | inl e ↦ to_next.0.distinct (sym e)
-            | inr old ↦ middle_out (chain.in_second next middle old other (meets_swapped g middle next l to_next)).0
+            | inr old ↦ middle_out (ejected.in_second next middle old other (meets_swapped g middle next l to_next)).0
           ]

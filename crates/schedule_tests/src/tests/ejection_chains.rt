@@ -74,8 +74,8 @@ fn least_sets_of_ten_and_six(rt: HostRuntime) -> Result<(), Fail> {
     check_sets(&rt, rt.alloc(), 6, &[], ROUNDS_OF_SIX)
 }
 
-// Two rounds d apart of the first 39 fall into as many chains as 39 and d have for their greatest common divisor. The rounds of
-// teams 0 and 39 are those of `closed` in `scripts/parts/model.py`.
+// Two rounds d apart of the first 39 fall into as many ejection chains as 39 and d have for their greatest common divisor. The
+// rounds of teams 0 and 39 are those of `closed` in `scripts/parts/model.py`.
 
 const TEAMS_OF_FORTY: &[Case] = &[
     (
