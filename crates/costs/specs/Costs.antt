@@ -60,7 +60,7 @@ cost_of l g = record {
 abbrev pub score_by : Weights → Cost → ℕ
 score_by weights cost = cost.travel + cost.soft + weights.breach * cost.hard + weights.rule * cost.of_rules
 
--- a score has room for these weights
+-- a score with these weights fits in its number
 pub record AreWeights (weights : Weights) : Type 0 where
   pub positive : 1 ≤ weights.breach
   pub fit : weights.breach + weights.rule < 2 ^ 32

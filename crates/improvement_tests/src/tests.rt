@@ -66,8 +66,8 @@ fn improved_by<T: Threads + Wait + Sync>(
     requires least { 1 ≤ plan.effort }
     requires most { plan.effort ≤ 1000000 }
 {
-    let mut room = vec![in alloc; 0; 400_000]?;
-    let mut memory = MemorySink::new(&mut room);
+    let mut buffer = vec![in alloc; 0; 400_000]?;
+    let mut memory = MemorySink::new(&mut buffer);
     let mut sink = RehearsedSink::new(&mut memory, writes);
     let gate = &NoGate;
     let run_context = RunContext { rt, alloc, gate };

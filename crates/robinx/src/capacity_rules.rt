@@ -118,7 +118,7 @@ fn goes_by_rounds(
     window: u32,
     most: u32,
 ) -> bool
-    ensures room { result ≡ true → most < window }
+    ensures longer { result ≡ true → most < window }
     ensures told { result ≡ true → window ≤ most + 2 }
 {
     let told = most < window && window - most <= 2;

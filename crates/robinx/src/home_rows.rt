@@ -73,7 +73,7 @@ fn gain(row: &mut Row, first: u8, step: &Step)
     requires first { first < row_length }
     requires step { IsStep step.now }
     requires len { length row.old ≡ row_length }
-    requires room { (r : ℕ) → slice_index row.old r < 255 }
+    requires fits { (r : ℕ) → slice_index row.old r < 255 }
     ensures len { length row.new ≡ row_length }
     ensures gained { (r : ℕ) → r < row_length → slice_index row.new r ≡ slice_index row.old r + from_on first r }
 {

@@ -18,7 +18,7 @@ pub(crate) fn over_in_rows(
     most: u32,
 ) -> u64
     requires len { length rows.now ≡ max_rounds }
-    requires room { most < window }
+    requires longer { most < window }
     requires told { window ≤ most + 2 }
     requires season { window ≤ max_rounds }
     requires teams { IsBelow max_teams teams }
@@ -38,7 +38,7 @@ pub(crate) fn over_in_rows(
 #[inline]
 fn over_in_window(rows: &[TeamSet; ROUNDS], teams: TeamSet, first: u8, window: u8, most: u32) -> u64
     requires len { length rows.now ≡ max_rounds }
-    requires room { most < window }
+    requires longer { most < window }
     requires told { window ≤ most + 2 }
     requires season { first + window ≤ max_rounds }
     ensures value { (n : ℕ) → IsBelow n teams → result ≡ sum_where n (has teams)

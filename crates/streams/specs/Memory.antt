@@ -10,9 +10,9 @@ rest_of source = source.rest.now
 abbrev pub most_at_once : MemorySource → ℕ
 most_at_once source = source.most
 
--- the bytes that a sink holds, and for how many more it has room
+-- the bytes that a sink holds, and for how many more it has space
 abbrev pub bytes_in : MemorySink → List ℕ
-bytes_in sink = take sink.filled sink.room.now
+bytes_in sink = take sink.filled sink.buffer.now
 
-abbrev pub room_in : MemorySink → ℕ
-room_in sink = length sink.room.now - sink.filled
+abbrev pub space_in : MemorySink → ℕ
+space_in sink = length sink.buffer.now - sink.filled

@@ -38,7 +38,7 @@ pub trait Sink {
     // The calls so far.
     ghost tally: { Self → Tally };
 
-    /// Takes bytes from the start of the piece, which isn't empty. `Moved(0)` says that there is no room.
+    /// Takes bytes from the start of the piece, which isn't empty. `Moved(0)` says that there is no space.
     fn push(&mut self, piece: &[u8]) -> Step
         requires { 0 < length piece.now }
         ensures bytes { StepGives (held self.old) (held self.new) result piece.now }

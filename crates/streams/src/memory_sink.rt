@@ -10,23 +10,23 @@ use super::tally::Tally;
 /// Takes bytes into a slice, until that is full.
 #[derive(Drop)]
 pub struct MemorySink<'a> {
-    room: &'a mut [u8],
+    buffer: &'a mut [u8],
     filled: usize,
     tally: Tally,
-    ghost within: { filled ≤ length room.now },
+    ghost within: { filled ≤ length buffer.now },
 }
 
 impl<'a> MemorySink<'a> {
-    ghost use Rattle.streams.specs.Memory.{room_in};
+    ghost use Rattle.streams.specs.Memory.{space_in};
 
     /// A sink that holds nothing yet, and takes as many bytes as the slice has places.
-    pub fn new(room: &'a mut [u8]) -> Self
+    pub fn new(buffer: &'a mut [u8]) -> Self
         ensures held { ⟦<MemorySink<'a> as Sink>⟧.held result ≡ Some [] }
         ensures tally { ⟦<MemorySink<'a> as Sink>⟧.tally result ≡ no_calls }
-        ensures room { room_in result ≡ length room.entry.now }
+        ensures space { space_in result ≡ length buffer.entry.now }
     {
         MemorySink {
-            room,
+            buffer,
             filled: 0,
             tally: Tally::new(),
         }
@@ -36,7 +36,7 @@ impl<'a> MemorySink<'a> {
     pub fn held(&self) -> &[u8]
         ensures { ⟦<MemorySink<'a> as Sink>⟧.held self.now ≡ Some result.now }
     {
-        &self.room[..self.filled]
+        &self.buffer[..self.filled]
     }
 
     /// The calls so far.
@@ -48,9 +48,9 @@ impl<'a> MemorySink<'a> {
 }
 
 impl Sink for MemorySink<'_> {
-    ghost use Rattle.streams.specs.Memory.{bytes_in, room_in};
+    ghost use Rattle.streams.specs.Memory.{bytes_in, space_in};
 
-    ghost held = { λ s. Some (take s.filled s.room.now) };
+    ghost held = { λ s. Some (take s.filled s.buffer.now) };
 
     ghost tally = { λ s. s.tally };
 
@@ -58,12 +58,12 @@ impl Sink for MemorySink<'_> {
         requires { 0 < length piece.now }
         ensures bytes { StepGives (Some (bytes_in self.old)) (Some (bytes_in self.new)) result piece.now }
         ensures counted { self.new.tally ≡ noted self.old.tally result }
-        ensures moved { result ≡ Moved (min (length piece.now) (room_in self.old)) }
-        ensures room { room_in self.new ≡ room_in self.old - min (length piece.now) (room_in self.old) }
+        ensures moved { result ≡ Moved (min (length piece.now) (space_in self.old)) }
+        ensures space { space_in self.new ≡ space_in self.old - min (length piece.now) (space_in self.old) }
     {
         let start = self.filled;
-        let count = piece.len().min(self.room.len() - start);
-        self.room[start..start + count].copy_from_slice(&piece[..count]);
+        let count = piece.len().min(self.buffer.len() - start);
+        self.buffer[start..start + count].copy_from_slice(&piece[..count]);
         self.filled = start + count;
         let step = Step::Moved(count);
         step.noted_in(&mut self.tally)

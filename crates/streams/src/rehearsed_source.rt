@@ -54,8 +54,8 @@ impl<S: Source> Source for RehearsedSource<'_, S> {
         let step = match next_step(&mut self.steps) {
             None => self.source.pull(buffer),
             Some(Step::Moved(most)) => {
-                let room = buffer.len().min(most.max(1));
-                self.source.pull(&mut buffer[..room])
+                let space = buffer.len().min(most.max(1));
+                self.source.pull(&mut buffer[..space])
             }
             Some(step) => step,
         };

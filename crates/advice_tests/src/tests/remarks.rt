@@ -69,8 +69,8 @@ const LEAGUE: &str =
 #[test]
 fn report_ends_with_the_remarks(rt: HostRuntime) -> Result<(), Fail> {
     let input = format!(in rt.alloc(); "{LEAGUE}\nsheet\nround 1: 1-2\n")?;
-    let mut room = [0; 4000];
-    let mut sink = MemorySink::new(&mut room);
+    let mut buffer = [0; 4000];
+    let mut sink = MemorySink::new(&mut buffer);
     let source = MemorySource::new(input.as_bytes());
     report(rt.alloc(), source, &mut sink, Format::Text)?;
     let end =

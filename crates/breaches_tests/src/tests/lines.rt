@@ -27,8 +27,8 @@ fn write_lines<W: Sink>(
 }
 
 fn lines_of(alloc: Global, schedule: &Schedule, league: &League) -> Result<Vec<u8>, Fail> {
-    let mut room = [0; 256];
-    let mut sink = MemorySink::new(&mut room);
+    let mut buffer = [0; 256];
+    let mut sink = MemorySink::new(&mut buffer);
     write_lines(&mut sink, schedule, league)?;
     Ok(Vec::from_slice(alloc, sink.held())?)
 }

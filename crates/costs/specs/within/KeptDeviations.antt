@@ -10,7 +10,7 @@ use Rattle.costs.specs.Evaluators.{AreDeviations}
 use Rattle.costs.specs.declared.kept_deviations.KeptDeviations.{KeptDeviations}
 use Rattle.costs.specs.declared.scope.Scope.{Scope}
 
--- there is room for each rule, and what is known are the deviations of the schedule
+-- each rule has its place, and what is known are the deviations of the schedule
 pub record AreKeptDeviations (rules : List Rule) (g : Games) (held : KeptDeviations) : Type 0 where
   pub kept_length : length held.kept ≡ max_rules
   pub next_length : length held.next ≡ max_rules

@@ -166,8 +166,8 @@ fn new_board(rt: &impl Abort, alloc: Global) -> Board
 /// The least total of a board on which a history was played.
 fn least_played(rt: &impl Abort, alloc: Global, history: &[u8]) -> Option<u64> {
     let (script, _) = split_at_line(history, b"end");
-    let mut room = vec![in alloc; 0; 1_000_000].expect(rt, "memory");
-    let mut sink = MemorySink::new(&mut room);
+    let mut buffer = vec![in alloc; 0; 1_000_000].expect(rt, "memory");
+    let mut sink = MemorySink::new(&mut buffer);
     let mut board = new_board(rt, alloc);
     play_script(&mut board, script, &mut sink).expect(rt, "a text");
     match board.best() {

@@ -50,11 +50,11 @@ fn counted<T: Threads + Wait + Sync + Abort>(
         legs: 0,
         steps: 0,
     };
-    let mut room = vec![in alloc; 0; 400_000].expect(rt, "memory");
+    let mut buffer = vec![in alloc; 0; 400_000].expect(rt, "memory");
     let gate = &NoGate;
     let run_context = RunContext { rt, alloc, gate };
     let league = circle(rt, alloc, 6);
-    let mut sink = MemorySink::new(&mut room);
+    let mut sink = MemorySink::new(&mut buffer);
     let ended = improve(run_context, league, plan, &mut sink, &mut counter);
     (counter.legs, counter.steps, ended.is_ok())
 }

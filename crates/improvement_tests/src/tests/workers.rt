@@ -53,8 +53,8 @@ fn two_workers_run_two_legs_at_once(rt: HostRuntime) {
         late: AtomicU64::new(0),
     };
     let alloc = rt.alloc();
-    let mut room = vec![in alloc; 0; 400_000].expect(&rt, "memory");
-    let mut sink = MemorySink::new(&mut room);
+    let mut buffer = vec![in alloc; 0; 400_000].expect(&rt, "memory");
+    let mut sink = MemorySink::new(&mut buffer);
     let run_context = RunContext {
         rt: &rt,
         alloc,

@@ -62,8 +62,8 @@ fn run_by<T: Threads + Wait + Sync>(
     (input, reads): (&[u8], &[Step]),
     writes: &[Step],
 ) -> Result<Ended, AllocError> {
-    let mut room = [0; 1000];
-    let mut memory = MemorySink::new(&mut room);
+    let mut buffer = [0; 1000];
+    let mut memory = MemorySink::new(&mut buffer);
     let mut sink = RehearsedSink::new(&mut memory, writes);
     let mut source = RehearsedSource::new(MemorySource::new(input), reads);
     let answer = run_from(rt, alloc, command, &mut source, &mut sink);
@@ -189,8 +189,8 @@ fn check_interrupted<T: Threads + Wait + Sync + Abort>(rt: &T, alloc: Global, co
     let mut source = Interrupted {
         tally: Tally::new(),
     };
-    let mut room = [0; 1000];
-    let mut sink = MemorySink::new(&mut room);
+    let mut buffer = [0; 1000];
+    let mut sink = MemorySink::new(&mut buffer);
     let answer = run_from(rt, alloc, command, &mut source, &mut sink);
     let found = (answer, source.tally.calls, sink.tally().calls);
     let wanted = (Err(ProgramFault::Read), 8_388_608, 0);

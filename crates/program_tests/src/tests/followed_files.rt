@@ -77,8 +77,8 @@ fn end_leg<R: Files + Clock + Eprint>(
     better: Option<&Board>,
     league: &League,
 ) {
-    let mut room = [0; 1];
-    let mut sink = MemorySink::new(&mut room);
+    let mut buffer = [0; 1];
+    let mut sink = MemorySink::new(&mut buffer);
     let out = BufferedSink::new(&mut sink);
     let lent = Snapshot::of(&out);
     let written = Written {

@@ -199,8 +199,8 @@ fn check_front(
     page: &[u8],
     length: usize,
 ) -> Result<(), Fail> {
-    let mut room = vec![in alloc; 0; 20_000]?;
-    let mut memory = MemorySink::new(&mut room);
+    let mut buffer = vec![in alloc; 0; 20_000]?;
+    let mut memory = MemorySink::new(&mut buffer);
     let steps = [Step::Moved(length), Step::Failed];
     let mut sink = RehearsedSink::new(&mut memory, &steps);
     let source = MemorySource::new(input.as_bytes());

@@ -116,8 +116,8 @@ fn ended<T: Threads + Wait + Sync>(
     input: &str,
     workers: u32,
 ) -> (Result<Verdict, ProgramFault>, u64) {
-    let mut room = [0; 10];
-    let mut sink = MemorySink::new(&mut room);
+    let mut buffer = [0; 10];
+    let mut sink = MemorySink::new(&mut buffer);
     let source = MemorySource::new(input.as_bytes());
     let gate = &NoGate;
     let answer = improve(
@@ -144,8 +144,8 @@ fn judged<T: Threads + Wait + Sync>(
     input: &str,
     workers: u32,
 ) -> Result<(Verdict, Vec<u8>), Fail> {
-    let mut room = vec![in alloc; 0; 100_000]?;
-    let mut sink = MemorySink::new(&mut room);
+    let mut buffer = vec![in alloc; 0; 100_000]?;
+    let mut sink = MemorySink::new(&mut buffer);
     let source = MemorySource::new(input.as_bytes());
     let gate = &NoGate;
     let verdict = improve(
@@ -206,8 +206,8 @@ fn has_end(text: &[u8], end: &str) -> bool {
 /// The play text of a script on the circle.
 fn played(alloc: Global, script: &str) -> Result<Vec<u8>, Fail> {
     let input = [CIRCLE, "\nscript\n", script].concat(alloc)?;
-    let mut room = vec![in alloc; 0; 200_000]?;
-    let mut sink = MemorySink::new(&mut room);
+    let mut buffer = vec![in alloc; 0; 200_000]?;
+    let mut sink = MemorySink::new(&mut buffer);
     play(alloc, MemorySource::new(input.as_bytes()), &mut sink, 2048)?;
     Ok(Vec::from_slice(alloc, sink.held())?)
 }
@@ -262,8 +262,8 @@ fn tell<C: Clock, W: Sink>(rt: &impl Wait, line: &ProgressLine<'_, C, W>, tellin
 /// second run writes it at once, and its end shows all steps.
 #[test]
 fn line_comes_again_in_the_next_run(rt: HostRuntime) {
-    let mut room = [0; 1000];
-    let mut terminal = MemorySink::new(&mut room);
+    let mut buffer = [0; 1000];
+    let mut terminal = MemorySink::new(&mut buffer);
     let clock = Ticks::new(Some(1));
     let line = ProgressLine::over(&clock, &mut terminal, Extent::Steps(280));
     run(&rt, &line, 250);
@@ -279,8 +279,8 @@ fn line_comes_again_in_the_next_run(rt: HostRuntime) {
 /// A worker that goes on while a text is written shows no line before a quarter of a second has passed.
 #[test]
 fn line_stays_away_while_a_text_is_written(rt: HostRuntime) {
-    let mut room = [0; 1000];
-    let mut terminal = MemorySink::new(&mut room);
+    let mut buffer = [0; 1000];
+    let mut terminal = MemorySink::new(&mut buffer);
     let clock = Ticks::new(Some(1));
     let line = ProgressLine::over(&clock, &mut terminal, Extent::Steps(800));
     run(&rt, &line, 250);
@@ -317,8 +317,8 @@ fn check_line<T: Threads + Wait + Sync + Abort>(
     workers: u32,
     text: &[u8],
 ) -> Result<(), Fail> {
-    let mut room = vec![in alloc; 0; 100_000]?;
-    let mut terminal = MemorySink::new(&mut room);
+    let mut buffer = vec![in alloc; 0; 100_000]?;
+    let mut terminal = MemorySink::new(&mut buffer);
     let found = improved_on(rt, alloc, &mut terminal, workers)?;
     check_same_of(rt, &workers, &found.as_slice(), &text);
     let last = last_line(terminal.held()).ok_or("no line")?;

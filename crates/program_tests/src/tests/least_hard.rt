@@ -72,8 +72,8 @@ fn strict_board(alloc: Global, league: &str) -> Result<Board, Fail> {
 fn parts_that_are_broken_are_told_with_their_numbers(rt: HostRuntime) -> Result<(), Fail> {
     for (league, found) in [(STRICT, FOUND), (FREE, FOUND_IF_FREE)] {
         let board = strict_board(rt.alloc(), league)?;
-        let mut room = [0; 1000];
-        let mut sink = MemorySink::new(&mut room);
+        let mut buffer = [0; 1000];
+        let mut sink = MemorySink::new(&mut buffer);
         let mut out = BufferedSink::new(&mut sink);
         write_improved(&mut out, &board)?;
         out.flush()?;

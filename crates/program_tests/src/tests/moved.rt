@@ -36,8 +36,8 @@ fn moved_games_are_those_of_the_best_schedule(rt: HostRuntime) -> Result<(), Fai
         let ask = Ask::of(Change::Shift(mv), board.version(), u64::MAX);
         board.answer(0, ask);
     }
-    let mut room = [0; 1000];
-    let mut sink = MemorySink::new(&mut room);
+    let mut buffer = [0; 1000];
+    let mut sink = MemorySink::new(&mut buffer);
     let mut out = BufferedSink::new(&mut sink);
     write_found(&mut out, &board)?;
     out.flush()?;

@@ -39,8 +39,8 @@ fn beginning(alloc: Global, (parts, start, near): Beginning<'_>) -> Result<Leagu
 fn report_of(alloc: Global, league: &League, format: Format, sheet: &str) -> Result<Vec<u8>, Fail> {
     let judged = judge(alloc, league, sheet.as_bytes())?;
     let prepared = prepare(alloc, format, league, &judged, Vec::new(alloc))?;
-    let mut room = vec![in alloc; 0; 20_000]?;
-    let mut sink = MemorySink::new(&mut room);
+    let mut buffer = vec![in alloc; 0; 20_000]?;
+    let mut sink = MemorySink::new(&mut buffer);
     write_prepared(league, sheet.as_bytes(), &judged, &prepared, &mut sink)?;
     Ok(Vec::from_slice(alloc, sink.held())?)
 }

@@ -67,8 +67,8 @@ const PAUSES: [(u64, usize, [u32; 4]); 6] = [
 
 /// The pauses of a line after each of so many tellings.
 fn pauses(rt: &impl Wait, clock: &Ticks, tellings: usize) -> [u32; 4] {
-    let mut room = [0; 1000];
-    let line = ProgressLine::new(clock, MemorySink::new(&mut room), PLAN);
+    let mut buffer = [0; 1000];
+    let line = ProgressLine::new(clock, MemorySink::new(&mut buffer), PLAN);
     let progress = Progress {
         steps: 1,
         least: None,
@@ -223,8 +223,8 @@ fn tell_all<R: Wait, C: Clock, W: Sink>(
 
 /// The terminal was never called where it is to hold nothing.
 fn check_showing<R: Wait + Abort>(rt: &R, showing: &Showing<'_>) {
-    let mut room = [0; 1000];
-    let mut memory = MemorySink::new(&mut room);
+    let mut buffer = [0; 1000];
+    let mut memory = MemorySink::new(&mut buffer);
     let mut terminal = RehearsedSink::new(&mut memory, showing.writes);
     let clock = Ticks::new(showing.step);
     tell_all(rt, &ProgressLine::new(&clock, &mut terminal, PLAN), showing);
@@ -286,8 +286,8 @@ const SHOWN: &[u8] = b"\r\x1b[K\x1b[?7l25 % steps 1 of 4 best 30 left 0:00:03\x1
 
 #[test]
 fn search_shows_its_line_and_takes_it_away(rt: HostRuntime) -> Result<(), Fail> {
-    let mut room = [0; 1000];
-    let mut terminal = MemorySink::new(&mut room);
+    let mut buffer = [0; 1000];
+    let mut terminal = MemorySink::new(&mut buffer);
     let text = searched(&rt, rt.alloc(), &mut terminal, CIRCLE)?;
     check_same(&rt, &text, &found(&rt, rt.alloc())?);
     check_same(&rt, &terminal.held(), &SHOWN);
@@ -296,8 +296,8 @@ fn search_shows_its_line_and_takes_it_away(rt: HostRuntime) -> Result<(), Fail> 
 
 #[test]
 fn refused_search_shows_no_line(rt: HostRuntime) {
-    let mut room = [0; 1000];
-    let mut terminal = MemorySink::new(&mut room);
+    let mut buffer = [0; 1000];
+    let mut terminal = MemorySink::new(&mut buffer);
     let is_refused = searched(&rt, rt.alloc(), &mut terminal, "").is_err();
     check_same(&rt, &(is_refused, terminal.tally().calls), &(true, 0));
 }
@@ -372,8 +372,8 @@ fn check_last_line<T: Threads + Wait + Sync + Abort>(
     workers: u32,
     wanted: &str,
 ) -> Result<(), Fail> {
-    let mut room = vec![in alloc; 0; 10_000]?;
-    let mut terminal = MemorySink::new(&mut room);
+    let mut buffer = vec![in alloc; 0; 10_000]?;
+    let mut terminal = MemorySink::new(&mut buffer);
     let plan = SearchPlan {
         workers,
         steps: 250,

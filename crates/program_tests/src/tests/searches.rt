@@ -16,8 +16,8 @@ use streams::{MemorySink, MemorySource};
 
 #[test]
 fn search_without_steps_writes_the_start(rt: HostRuntime) -> Result<(), Fail> {
-    let mut room = [0; 1000];
-    let mut sink = MemorySink::new(&mut room);
+    let mut buffer = [0; 1000];
+    let mut sink = MemorySink::new(&mut buffer);
     let source = MemorySource::new(CIRCLE.as_bytes());
     let run_context = RunContext {
         rt: &rt,

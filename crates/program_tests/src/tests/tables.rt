@@ -163,8 +163,8 @@ fn games_of_a_table_are_judged(rt: HostRuntime) -> Result<(), Fail> {
 #[test]
 fn a_start_from_a_table_is_told_as_from_a_text(rt: HostRuntime) -> Result<(), Fail> {
     let league = read_league(rt.alloc(), CIRCLE.as_bytes())?;
-    let mut room = [0; 2000];
-    let mut sink = MemorySink::new(&mut room);
+    let mut buffer = [0; 2000];
+    let mut sink = MemorySink::new(&mut buffer);
     write_start_faults(rt.alloc(), &league, b"away,home\nT4,T1\n", &mut sink)?;
     let mut text_room = [0; 2000];
     let mut text_sink = MemorySink::new(&mut text_room);

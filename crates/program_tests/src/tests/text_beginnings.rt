@@ -100,8 +100,8 @@ fn a_beginning_tells_refused_memory(rt: HostRuntime) {
 #[test]
 fn faults_of_a_start_are_those_of_a_report(rt: HostRuntime) -> Result<(), Fail> {
     let league = read_league(rt.alloc(), CIRCLE.as_bytes())?;
-    let mut room = [0; 400];
-    let mut sink = MemorySink::new(&mut room);
+    let mut buffer = [0; 400];
+    let mut sink = MemorySink::new(&mut buffer);
     write_start_faults(rt.alloc(), &league, DAMAGED.as_bytes(), &mut sink)?;
     check_same(&rt, &sink.held(), &FAULTS.as_bytes());
     Ok(())

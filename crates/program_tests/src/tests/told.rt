@@ -75,8 +75,8 @@ pub(crate) fn tell<T: Threads + Wait + Sync>(
     command: Command,
     input: &[u8],
 ) -> Result<Told, AllocError> {
-    let mut room = vec![in alloc; 0; 200_000]?;
-    let mut sink = MemorySink::new(&mut room);
+    let mut buffer = vec![in alloc; 0; 200_000]?;
+    let mut sink = MemorySink::new(&mut buffer);
     let answer = command.run(rt, alloc, input, &mut sink);
     let calls = sink.tally().calls;
     let text = Vec::from_slice(alloc, sink.held())?;

@@ -72,7 +72,7 @@ module _ (g : Games) (side : Side) (opponents slots most set : ℕ) where
       count_le : (r : ℕ) → number_at numbers r ≤ begin slots most r + max_teams
       count_le r = omega (arith, (so_far.counted r).within, so_far.least r)
 
-      -- there is room for one more
+      -- one more fits
       pub counted_small : (r : ℕ) → number_at numbers r < 127
       counted_small r = omega (arith, count_le r, begin_le r)
 

@@ -187,8 +187,8 @@ two_short count m most whole = elim (cases_lt m 2) [
 
 -- over all of some windows, or over some teams in one window: whether `s` has the round `k` of its window is `in_row s k`
 module _ (in_row : ℕ → ℕ → Bool) (all n window most : ℕ) where
-  pub over_without_room : window ≤ most → sum_where n (has all) (λ s. over (count_where window (in_row s)) most) ≡ 0
-  over_without_room le = sum_below_zero n _ (λ s below. none (has all s) _ (omega (arith, has_and_lacks window (in_row s))))
+  pub over_in_shorter : window ≤ most → sum_where n (has all) (λ s. over (count_where window (in_row s)) most) ≡ 0
+  over_in_shorter le = sum_below_zero n _ (λ s below. none (has all s) _ (omega (arith, has_and_lacks window (in_row s))))
     where
       none : (b : Bool) (x : ℕ) → x ≡ 0 → (if b then x else 0) ≡ 0
       none true x is = is
@@ -197,13 +197,13 @@ module _ (in_row : ℕ → ℕ → Bool) (all n window most : ℕ) where
   pub over_by_full : (full : ℕ) → window ≡ most + 1 →
       ((s : ℕ) → has full s ≡ (has all s && count_where window (λ k. not (in_row s k)) == 0)) →
       count_where n (has full) ≡ sum_where n (has all) (λ s. over (count_where window (in_row s)) most)
-  over_by_full full room members =
+  over_by_full full longer members =
       sum_below_same n _ _
       (λ s below. ap {B = ℕ} (λ b. if b then 1 else 0) (members s) ∙ at (has all s) s)
     where
       at : (b : Bool) (s : ℕ) → (if b && count_where window (λ k. not (in_row s k)) == 0 then 1 else 0) ≡
           (if b then over (count_where window (in_row s)) most else 0)
-      at true s = one_short _ (count_where window (λ k. not (in_row s k))) most (has_and_lacks window (in_row s) ∙ room)
+      at true s = one_short _ (count_where window (λ k. not (in_row s k))) most (has_and_lacks window (in_row s) ∙ longer)
       at false s = refl
 
   pub over_by_both : (full nearly : ℕ) → window ≡ most + 2 →
@@ -211,7 +211,7 @@ module _ (in_row : ℕ → ℕ → Bool) (all n window most : ℕ) where
       ((s : ℕ) → has nearly s ≡ (has all s && nat_lt (count_where window (λ k. not (in_row s k))) 2)) →
       count_where n (has full) + count_where n (has nearly) ≡
       sum_where n (has all) (λ s. over (count_where window (in_row s)) most)
-  over_by_both full nearly room fulls nears =
+  over_by_both full nearly longer fulls nears =
       sym (sum_below_add n (λ s. if has full s then 1 else 0) (λ s. if has nearly s then 1 else 0)) ∙
       sum_below_same n _ _
       (λ s below. rw (fulls s, nears s) (at (has all s) s))
@@ -220,5 +220,5 @@ module _ (in_row : ℕ → ℕ → Bool) (all n window most : ℕ) where
           (if b && count_where window (λ k. not (in_row s k)) == 0 then 1 else 0) +
           (if b && nat_lt (count_where window (λ k. not (in_row s k))) 2 then 1 else 0) ≡
           (if b then over (count_where window (in_row s)) most else 0)
-      at true s = two_short _ (count_where window (λ k. not (in_row s k))) most (has_and_lacks window (in_row s) ∙ room)
+      at true s = two_short _ (count_where window (λ k. not (in_row s k))) most (has_and_lacks window (in_row s) ∙ longer)
       at false s = refl

@@ -90,7 +90,7 @@ module _ (first : ℕ) (fewer more : ℕ → Bool) (away : fewer first ≡ false
   pub counted_from_on : (row : List ℕ) → IsHomeRow more row → (r : ℕ) → r < row_length → from_on first r ≤ get_or row r 0
   counted_from_on row is r in_row = omega (arith, is.counts r in_row, more_from_on r)
 
--- a row has room for more
+-- one more fits in each place of a row
 pub row_small : (row : List ℕ) (home : ℕ → Bool) → IsHomeRow home row → (r : ℕ) → get_or row r 0 < 255
 row_small row home is r = elim (cases_lt r row_length) [
   | inl in_row ↦ omega (arith, is.counts r in_row, count_where_le (r + 1) home, in_row)

@@ -24,8 +24,8 @@ fn write_small_pieces<W: Sink>(sink: &mut W) -> Result<(), WriteFault> {
 
 #[test]
 fn gathers_small_pieces(rt: HostRuntime) {
-    let mut room = [0; 64];
-    let mut sink = MemorySink::new(&mut room);
+    let mut buffer = [0; 64];
+    let mut sink = MemorySink::new(&mut buffer);
     let outcome = write_small_pieces(&mut sink);
     check_same(&rt, &(outcome, sink.tally().calls), &(Ok(()), 1));
     let text = b"numbers 0 and 18446744073709551615\n";
@@ -49,10 +49,10 @@ fn joined(alloc: Global, pieces: &[&[u8]]) -> Result<Vec<u8>, AllocError> {
     Ok(text)
 }
 
-/// A sink with room for 12,000 bytes takes the pieces one after another, by so many calls.
+/// A sink with space for 12,000 bytes takes the pieces one after another, by so many calls.
 fn check_pieces(rt: &impl Abort, alloc: Global, pieces: &[&[u8]], calls: u64) -> Result<(), Fail> {
-    let mut room = vec![in alloc; 0; 12_000]?;
-    let mut sink = MemorySink::new(&mut room);
+    let mut buffer = vec![in alloc; 0; 12_000]?;
+    let mut sink = MemorySink::new(&mut buffer);
     write_pieces(&mut sink, pieces)?;
     let text = joined(alloc, pieces)?;
     let calls_made = sink.tally().calls;
@@ -81,8 +81,8 @@ fn write_chunks<W: Sink>(sink: &mut W, text: &[u8], size: usize) -> Result<(), W
 fn check_chunks(rt: &impl Abort, alloc: Global, text: &[u8], size: usize) -> Result<(), Fail>
     requires { 0 < size }
 {
-    let mut room = vec![in alloc; 0; 12_000]?;
-    let mut sink = MemorySink::new(&mut room);
+    let mut buffer = vec![in alloc; 0; 12_000]?;
+    let mut sink = MemorySink::new(&mut buffer);
     write_chunks(&mut sink, text, size)?;
     let holds = sink.held() == text && sink.tally().calls <= 7;
     check_same(rt, &(size, holds), &(size, true));
@@ -106,8 +106,8 @@ fn write_and_flush_twice<W: Sink>(sink: &mut W) -> [Result<(), WriteFault>; 3] {
 
 #[test]
 fn a_fault_leaves_a_front_of_the_text(rt: HostRuntime) {
-    let mut room = [0; 16];
-    let mut memory = MemorySink::new(&mut room);
+    let mut buffer = [0; 16];
+    let mut memory = MemorySink::new(&mut buffer);
     let steps = [Step::Moved(2), Step::Failed];
     let outcomes = write_and_flush_twice(&mut RehearsedSink::new(&mut memory, &steps));
     check_same(&rt, &outcomes, &[Ok(()), Err(WriteFault), Ok(())]);
@@ -123,8 +123,8 @@ fn write_two<W: Sink>(sink: &mut W, long: &[u8]) -> [Result<(), WriteFault>; 2] 
 #[test]
 fn a_piece_that_does_not_fit_meets_a_fault_at_once(rt: HostRuntime) -> Result<(), Fail> {
     let long = vec![in rt.alloc(); b'x'; 5000]?;
-    let mut room = [0; 16];
-    let mut memory = MemorySink::new(&mut room);
+    let mut buffer = [0; 16];
+    let mut memory = MemorySink::new(&mut buffer);
     let outcomes = write_two(&mut RehearsedSink::new(&mut memory, &[Step::Failed]), &long);
     check_same(&rt, &outcomes, &[Ok(()), Err(WriteFault)]);
     check_same(&rt, &memory.held(), &b"".as_slice());

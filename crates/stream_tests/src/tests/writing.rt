@@ -89,8 +89,8 @@ fn tells_of_no_pipe_at_another_failure(rt: HostRuntime) {
 
 #[test]
 fn stops_at_a_sink_that_is_full(rt: HostRuntime) {
-    let mut room = [0; 4];
-    let mut sink = MemorySink::new(&mut room);
+    let mut buffer = [0; 4];
+    let mut sink = MemorySink::new(&mut buffer);
     let outcome = write_all(&mut sink, TEXT);
     let tally = Tally {
         calls: 2,
@@ -101,7 +101,7 @@ fn stops_at_a_sink_that_is_full(rt: HostRuntime) {
     check_same(&rt, &sink.held(), &b"two\n".as_slice());
 }
 
-/// The outcome of a text that is written by these steps to a sink with room for it, and the sink's tally.
+/// The outcome of a text that is written by these steps to a sink with space for it, and the sink's tally.
 fn written(memory: &mut MemorySink<'_>, steps: &[Step]) -> (Result<(), WriteFault>, Tally) {
     let mut sink = RehearsedSink::new(memory, steps);
     (write_all(&mut sink, TEXT), sink.tally())
@@ -109,8 +109,8 @@ fn written(memory: &mut MemorySink<'_>, steps: &[Step]) -> (Result<(), WriteFaul
 
 #[test]
 fn stops_at_a_failed_write(rt: HostRuntime) {
-    let mut room = [0; 16];
-    let mut memory = MemorySink::new(&mut room);
+    let mut buffer = [0; 16];
+    let mut memory = MemorySink::new(&mut buffer);
     let steps = [Step::Moved(2), Step::Again, Step::Moved(3), Step::Failed];
     let tally = Tally {
         calls: 4,
@@ -128,8 +128,8 @@ fn stops_at_a_failed_write(rt: HostRuntime) {
 
 /// A text that is written by these steps comes to this end, and the sink holds so much of it.
 fn check_steps(rt: &impl Abort, steps: &[Step], wanted: Result<(), WriteFault>, held: &[u8]) {
-    let mut room = [0; 16];
-    let mut memory = MemorySink::new(&mut room);
+    let mut buffer = [0; 16];
+    let mut memory = MemorySink::new(&mut buffer);
     let (outcome, _) = written(&mut memory, steps);
     check_same(rt, &(outcome, memory.held()), &(wanted, held));
 }
@@ -144,10 +144,10 @@ fn gives_up_after_a_thousand_interrupted_writes_in_a_row(rt: HostRuntime) {
 }
 
 #[test]
-fn hands_a_sink_with_room_the_whole_text_at_once(rt: HostRuntime) -> Result<(), Fail> {
+fn hands_a_sink_with_space_the_whole_text_at_once(rt: HostRuntime) -> Result<(), Fail> {
     let text = vec![in rt.alloc(); b'x'; 12_000]?;
-    let mut room = vec![in rt.alloc(); 0; 12_000]?;
-    let mut sink = MemorySink::new(&mut room);
+    let mut buffer = vec![in rt.alloc(); 0; 12_000]?;
+    let mut sink = MemorySink::new(&mut buffer);
     write_all(&mut sink, &text)?;
     check_same(&rt, &sink.tally().calls, &1);
     Ok(())

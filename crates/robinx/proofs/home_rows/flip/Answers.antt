@@ -15,8 +15,8 @@ gain-requires-clause-first c =
     let in_season : c.in-Some.round < max_rounds = lowest_below _ _ _ _ c.loop-round.invariant.below c.in-Some.ensures.steps in
     omega (arith, in_season)
 
-pub gain-requires-clause-room : goal.gain-requires-clause-room
-gain-requires-clause-room c = row_small _ _ c.loop-round.invariant.is
+pub gain-requires-clause-fits : goal.gain-requires-clause-fits
+gain-requires-clause-fits c = row_small _ _ c.loop-round.invariant.is
 
 pub lose-requires-clause-first : goal.lose-requires-clause-first
 lose-requires-clause-first c =

@@ -2,7 +2,7 @@ use Rattle.std.proofs.Common.{◌+◌, ◌-◌, ◌≤◌, ◌^◌, sym, ◌∙�
 use Rattle.std.proofs.Math.Pow.{pow_mono}
 use Rattle.league.specs.Limits.{max_rounds}
 use Rattle.league.specs.Sets.{has}
-use Rattle.robinx.proofs.rows.FullWindows.{over_without_room, over_by_full, over_by_both}
+use Rattle.robinx.proofs.rows.FullWindows.{over_in_shorter, over_by_full, over_by_both}
 use Rattle.robinx.proofs.windows.over_in_windows_of.Goals as goal
 
 pub full_windows-requires-clause-starts : goal.full_windows-requires-clause-starts
@@ -17,7 +17,7 @@ full_windows-windows-requires-clause-starts c =
 
 pub returns-in-0-clause-value : goal.returns-in-0-clause-value
 returns-in-0-clause-value c =
-    sym (over_without_room (λ s k. has c.args.set (s + k)) c.args.starts _ c.args.window c.args.most
+    sym (over_in_shorter (λ s k. has c.args.set (s + k)) c.args.starts _ c.args.window c.args.most
     (omega (arith, c.from.ensures, c.saturating_sub.ensures, c.in-0.is)))
 
 pub returns-in-1-clause-value : goal.returns-in-1-clause-value
