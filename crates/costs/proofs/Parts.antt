@@ -20,7 +20,7 @@ use Rattle.fixtures.specs.TouchedCells.{TouchedCells}
 use Rattle.fixtures.specs.declared.exchanges.Exchange.{Exchange}
 use Rattle.fixtures.specs.Exchanges.{exchanged_by, main_cells}
 use Rattle.fixtures.proofs.ForCallers.{each_undone, each_around, each_sides}
-use Rattle.tours.specs.Runs.{runs_over}
+use Rattle.tours.specs.Streaks.{runs_over}
 use Rattle.tours.specs.Phased.{unphased, unphased_part}
 use Rattle.tours.specs.Tours.{travel}
 use Rattle.tours.proofs.ForCallers.{unphased_balance_around}
@@ -236,10 +236,10 @@ predicted_alone {l} {g} {exchange} {predicted} weights few known is same none wh
 pub travel_scores : (l : LeagueData) (weights : Weights) (g : Games) → travel l g ≤ score_by weights (cost_of l g)
 travel_scores l weights g = omega (arith, cost_travel l g)
 
--- nor the travel with some of the runs
-pub least_scores : (l : LeagueData) (weights : Weights) (g : Games) (runs : ℕ) → runs ≤ runs_over g l.at_most →
-    score_by weights (record { travel = travel l g; hard = runs; of_rules = 0; soft = 0 }) ≤ score_by weights (cost_of l g)
-least_scores l weights g runs some =
+-- nor the travel with some of the streaks
+pub least_scores : (l : LeagueData) (weights : Weights) (g : Games) (streaks : ℕ) → streaks ≤ runs_over g l.at_most →
+    score_by weights (record { travel = travel l g; hard = streaks; of_rules = 0; soft = 0 }) ≤ score_by weights (cost_of l g)
+least_scores l weights g streaks some =
     score_grows weights _ (cost_of l g) (omega (arith, cost_travel l g)) (omega (arith, some, games_le l g)) (omega arith) (omega arith)
 
 pub rest_scores : (l : LeagueData) (weights : Weights) (scope : Scope) (after : Games) (rest : Cost) → IsRest l scope after rest →

@@ -17,7 +17,7 @@ use Rattle.fixtures.specs.declared.exchanges.Exchange.{Exchange}
 use Rattle.fixtures.specs.declared.exchanges.Exchange.TheVariants as edit
 use Rattle.fixtures.specs.Exchanges.{exchanged_by}
 use Rattle.tours.specs.Tours.{leg_count, leg, travel_of, travel}
-use Rattle.tours.specs.Runs.{windows, is_run, runs_of, runs_over}
+use Rattle.tours.specs.Streaks.{windows, is_streak, streaks_of, runs_over}
 use Rattle.tours.specs.Repeats.{repeats_after, repeats}
 use Rattle.tours.specs.Phased.{is_unphased, unphased}
 use Rattle.robinx.specs.Deviations.{deviation}
@@ -52,13 +52,13 @@ travel_le l g is forty =
     )
 
 runs_over_le : (g : Games) (at_most : ℕ) → g.teams ≤ max_teams → runs_over g at_most ≤ 3160
-unfolding runs_over runs_of
+unfolding runs_over streaks_of
 runs_over_le g at_most forty =
     omega (
       arith,
-      sum_below_le g.teams (max_rounds + 1) (runs_of g at_most)
+      sum_below_le g.teams (max_rounds + 1) (streaks_of g at_most)
           (λ t under.
-          omega (arith, count_where_le (windows g (at_most + 1)) (λ first. is_run g t first (at_most + 1)))),
+          omega (arith, count_where_le (windows g (at_most + 1)) (λ first. is_streak g t first (at_most + 1)))),
     )
 
 repeats_after_le : (g : Games) (round : ℕ) → g.teams ≤ max_teams → repeats_after g round ≤ max_teams * max_teams

@@ -8,7 +8,7 @@ use Rattle.league.specs.declared.rule.Weight.TheVariants.{Hard, Soft}
 use Rattle.fixtures.specs.Games.{Games}
 use Rattle.tours.specs.Moved.{moved_games}
 use Rattle.tours.specs.Tours.{travel}
-use Rattle.tours.specs.Runs.{runs_over}
+use Rattle.tours.specs.Streaks.{runs_over}
 use Rattle.tours.specs.Repeats.{repeats}
 use Rattle.tours.specs.Phased.{unphased}
 use Rattle.robinx.specs.Deviations.{deviation}
@@ -46,7 +46,7 @@ unless_free l count = if l.free_repeats then 0 else count
 abbrev pub near_cost : LeagueData → Games → ℕ
 near_cost l g = l.origin.near * moved_games l g
 
--- travel as it is; hard: runs, repeats unless they are free, the deviations of hard rules, and in a phased league the pairs
+-- travel as it is; hard: streaks, repeats unless they are free, the deviations of hard rules, and in a phased league the pairs
 -- of teams with both games in one half; of these those of rules; soft: the weighted deviations of soft rules, and what leaving the start costs
 unfoldable pub cost_of : LeagueData → Games → Cost
 cost_of l g = record {

@@ -8,7 +8,7 @@ use league::League;
 pub struct Cost {
     /// How far all teams travel, in the unit of the league's distances.
     pub travel: u64,
-    /// The runs, the repeats unless they are free, the deviations of the hard rules and, in a phased league, the pairs of
+    /// The streaks, the repeats unless they are free, the deviations of the hard rules and, in a phased league, the pairs of
     /// teams with both games in one half of the season.
     pub hard: u64,
     /// Of these the deviations of the hard rules.

@@ -13,10 +13,10 @@ use crate::attempt::Attempt;
 use crate::cost::Cost;
 use fixtures::{Exchange, Schedule};
 use league::League;
-use tours::{CountDelta, legs_of, moved_of, repeats_of, runs_of};
+use tours::{CountDelta, legs_of, moved_of, repeats_of, streaks_of};
 
-/// The cost with the travel, the runs, the repeats and what leaving the start costs after an exchange, and all else as before it. None if the travel
-/// alone, or with some of the runs, scores over its limit: then the whole cost after it does so too.
+/// The cost with the travel, the streaks, the repeats and what leaving the start costs after an exchange, and all else as before it. None if
+/// the travel alone, or with some of the streaks, scores over its limit: then the whole cost after it does so too.
 #[inline]
 pub(crate) fn predicted_within(
     schedule: &Schedule,
@@ -38,10 +38,10 @@ pub(crate) fn predicted_within(
     if travel > limit {
         return None;
     }
-    let runs = runs_of(schedule, league, exchange);
+    let streaks = streaks_of(schedule, league, exchange);
     let least = Cost {
         travel,
-        hard: runs.after,
+        hard: streaks.after,
         of_rules: 0,
         soft: 0,
     };
@@ -52,7 +52,7 @@ pub(crate) fn predicted_within(
     let leaving = leaving_of(schedule, league, exchange);
     Some(Cost {
         travel,
-        hard: known.hard + runs.after + repeats.after - runs.before - repeats.before,
+        hard: known.hard + streaks.after + repeats.after - streaks.before - repeats.before,
         of_rules: known.of_rules,
         soft: known.soft + leaving.after - leaving.before,
     })

@@ -8,7 +8,7 @@ use Rattle.league.specs.declared.rule.Rule.{Rule}
 use Rattle.fixtures.specs.Games.{Games}
 use Rattle.tours.specs.Phased.{unphased}
 use Rattle.tours.specs.Repeats.{repeats}
-use Rattle.tours.specs.Runs.{runs_over}
+use Rattle.tours.specs.Streaks.{runs_over}
 use Rattle.costs.specs.Costs.{hard_penalty, penalty_of, unless_free, where_phased}
 use Rattle.texts.specs.LeastHard.{rule_name}
 use Rattle.improvement.specs.declared.broken.Part.{Part}

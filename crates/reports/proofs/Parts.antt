@@ -6,7 +6,7 @@ use Rattle.league.specs.League.{LeagueData, IsLeague}
 use Rattle.league.specs.Sums.{sum_below, count_where}
 use Rattle.league.proofs.ForCallers.{sum_below_same, sum_below_past, count_where_same}
 use Rattle.fixtures.specs.Games.{Games, round_count, IsDoubleRoundRobin}
-use Rattle.tours.specs.Runs.{windows, is_run, runs_of, runs_over}
+use Rattle.tours.specs.Streaks.{windows, is_streak, streaks_of, runs_over}
 use Rattle.tours.specs.Repeats.{repeats_after, repeats}
 use Rattle.tours.specs.Phased.{is_unphased, unphased}
 use Rattle.tours.specs.Tours.{travel, travel_of}
@@ -51,7 +51,7 @@ past : (g : Games) (at_most team first : ℕ) → windows g (at_most + 1) ≤ fi
 past g at_most team first e = rw (le-ltb first (windows g (at_most + 1)) e) refl
 
 inside : (g : Games) (at_most team first : ℕ) → first < windows g (at_most + 1) →
-    is_over g at_most team first ≡ is_run g team first (at_most + 1)
+    is_over g at_most team first ≡ is_streak g team first (at_most + 1)
 inside g at_most team first e = rw (lt-ltb first (windows g (at_most + 1)) e) refl
 
 -- of a season of at least one round
@@ -63,15 +63,15 @@ runs_told g at_most team (suc k) some rounds season =
     omega (arith, none, streaks_add_up (is_over g at_most team) (suc k))
 
 counted_once : (g : Games) (at_most team : ℕ) → 1 ≤ at_most →
-    count_where (round_count g.teams) (is_over g at_most team) ≡ runs_of g at_most team
-unfolding runs_of
+    count_where (round_count g.teams) (is_over g at_most team) ≡ streaks_of g at_most team
+unfolding streaks_of
 counted_once g at_most team some =
     sum_below_past (windows g (at_most + 1)) (round_count g.teams) (λ f. if is_over g at_most team f then 1 else 0) (omega arith)
     (λ f beyond below. rw (past g at_most team f beyond) refl) ∙
-    count_where_same (windows g (at_most + 1)) (is_over g at_most team) (λ f. is_run g team f (at_most + 1)) (inside g at_most team)
+    count_where_same (windows g (at_most + 1)) (is_over g at_most team) (λ f. is_streak g team f (at_most + 1)) (inside g at_most team)
 
 windows_add_up : (g : Games) (at_most team : ℕ) → 1 ≤ at_most → 1 ≤ round_count g.teams →
-    window_count g at_most team ≡ runs_of g at_most team
+    window_count g at_most team ≡ streaks_of g at_most team
 windows_add_up g at_most team some rounds = runs_told g at_most team (round_count g.teams) some rounds refl ∙
     counted_once g at_most team some
 

@@ -9,7 +9,7 @@ use Rattle.league.specs.declared.rule.RuleBody.{RuleBody}
 use Rattle.fixtures.specs.Games.{Games}
 use Rattle.tours.specs.Phased.{unphased}
 use Rattle.tours.specs.Repeats.{repeats}
-use Rattle.tours.specs.Runs.{runs_over}
+use Rattle.tours.specs.Streaks.{runs_over}
 use Rattle.robinx.specs.Deviations.{deviation}
 use Rattle.costs.specs.Costs.{cost_of, hard_penalty, penalty_of, unless_free, where_phased}
 use Rattle.texts.specs.Classes.{class_name}

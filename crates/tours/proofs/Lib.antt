@@ -1,7 +1,7 @@
 pub mod meetings
 pub mod stops
 pub mod balances
-pub mod runs_and_repeats
+pub mod streaks_and_repeats
 pub mod legs
 pub mod exchanged_legs
 pub mod moved_counts

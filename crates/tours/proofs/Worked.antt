@@ -13,7 +13,7 @@ use Rattle.fixtures.specs.Games.{Games, place, is_home, meets}
 use Rattle.fixtures.specs.Berger.{berger_games, fide_games}
 use Rattle.fixtures.specs.Edits.{homes_exchanged, rounds_exchanged, all_games_exchanged}
 use Rattle.tours.specs.Tours.{tour, leg, travel_of, travel}
-use Rattle.tours.specs.Runs.{is_run, runs_of, runs_over}
+use Rattle.tours.specs.Streaks.{is_streak, streaks_of, runs_over}
 use Rattle.tours.specs.Parts.{touches_leg, travel_part_of, travel_part, touches_window, runs_part_of, runs_part, repeats_part}
 use Rattle.tours.specs.Repeats.{repeats_after, repeats}
 use Rattle.tours.specs.Moved.{moved_from, moved_games}
@@ -72,9 +72,9 @@ travel_at_the_greatest_distance : travel (equal_distances 1000000) start ≡ 210
 unfolding sum_below place leg travel_of travel
 travel_at_the_greatest_distance = refl
 
-runs_of_the_start : map (runs_over start) (1 ∷ 2 ∷ 3 ∷ 5 ∷ 6 ∷ 78 ∷ []) ≡ 6 ∷ 2 ∷ 0 ∷ 0 ∷ 0 ∷ 0 ∷ []
-unfolding sum_below all_below is_home is_run runs_of runs_over
-runs_of_the_start = refl
+streaks_of_the_start : map (runs_over start) (1 ∷ 2 ∷ 3 ∷ 5 ∷ 6 ∷ 78 ∷ []) ≡ 6 ∷ 2 ∷ 0 ∷ 0 ∷ 0 ∷ 0 ∷ []
+unfolding sum_below all_below is_home is_streak streaks_of runs_over
+streaks_of_the_start = refl
 
 repeats_of_the_start : repeats start ≡ 0
 unfolding sum_below meets repeats_after repeats
@@ -107,11 +107,11 @@ unfolding sum_below place leg touches_leg travel_part_of travel_part
 travel_part_with_last_two_rounds_exchanged = refl
 
 runs_part_of_last_two_rounds : runs_part start 2 (λ _. true) last_two ≡ 2
-unfolding sum_below all_below any_below is_home is_run touches_window runs_part_of runs_part
+unfolding sum_below all_below any_below is_home is_streak touches_window runs_part_of runs_part
 runs_part_of_last_two_rounds = refl
 
 runs_part_with_last_two_rounds_exchanged : runs_part (rounds_exchanged start 4 5 (λ _. true)) 2 (λ _. true) last_two ≡ 0
-unfolding sum_below all_below any_below is_home is_run touches_window runs_part_of runs_part
+unfolding sum_below all_below any_below is_home is_streak touches_window runs_part_of runs_part
 runs_part_with_last_two_rounds_exchanged = refl
 
 -- the parts of an exchange of homes

@@ -1,5 +1,5 @@
 pub mod Tours
-pub mod Runs
+pub mod Streaks
 pub mod Repeats
 pub mod Parts
 pub mod Phased

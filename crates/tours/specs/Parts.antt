@@ -1,10 +1,10 @@
--- The parts of travel, runs and repeats that a change can alter.
+-- The parts of travel, streaks and repeats that a change can alter.
 use Rattle.std.specs.Prelude.{ℕ, ◌+◌, ◌-◌, ◌&&◌, ◌||◌, ◌==◌, not, nat_lt, Bool}
 use Rattle.league.specs.League.{LeagueData}
 use Rattle.league.specs.Sums.{sum_where, count_where, any_below}
 use Rattle.fixtures.specs.Games.{Games, round_count}
 use Rattle.tours.specs.Tours.{leg_count, leg}
-use Rattle.tours.specs.Runs.{windows, is_run}
+use Rattle.tours.specs.Streaks.{windows, is_streak}
 use Rattle.tours.specs.Repeats.{repeats_after}
 
 -- whether one of the two rounds that leg r lies between is in the set
@@ -23,13 +23,13 @@ travel_part l g teams rounds = sum_where g.teams teams (travel_part_of l g round
 unfoldable pub touches_window : (ℕ → Bool) → ℕ → ℕ → Bool
 touches_window set first rounds = any_below rounds (λ k. set (first + k))
 
--- the runs of a team that touch a round of the set
+-- the streaks of a team that touch a round of the set
 unfoldable pub runs_part_of : Games → ℕ → (ℕ → Bool) → ℕ → ℕ
 runs_part_of g at_most rounds team =
     count_where (windows g (at_most + 1)) (λ first. touches_window rounds first (at_most + 1) &&
-    is_run g team first (at_most + 1))
+    is_streak g team first (at_most + 1))
 
--- the runs of the teams of the first set that touch a round of the second
+-- the streaks of the teams of the first set that touch a round of the second
 unfoldable pub runs_part : Games → ℕ → (ℕ → Bool) → (ℕ → Bool) → ℕ
 runs_part g at_most teams rounds = sum_where g.teams teams (runs_part_of g at_most rounds)
 

@@ -6,13 +6,13 @@ ghost use Rattle.league.specs.Limits.{max_distance, max_rounds, max_teams};
 ghost use Rattle.fixtures.specs.Exchanges.{exchanged_by, IsExchange};
 ghost use Rattle.tours.specs.Moved.{moved_games};
 ghost use Rattle.tours.specs.Repeats.{repeats};
-ghost use Rattle.tours.specs.Runs.{runs_over};
+ghost use Rattle.tours.specs.Streaks.{runs_over};
 ghost use Rattle.tours.specs.Tours.{travel};
 
 use crate::moved_delta::{moved_of_rounds, moved_of_teams};
 use crate::repeats_delta::{repeats_of_rounds, repeats_of_teams};
 use crate::rounds_delta::legs_of_rounds;
-use crate::runs_delta::{runs_of_rounds, runs_of_teams};
+use crate::streaks_delta::{streaks_of_rounds, streaks_of_teams};
 use crate::teams_delta::legs_of_teams;
 use fixtures::{Exchange, Schedule};
 use league::League;
@@ -54,8 +54,8 @@ pub fn legs_of(schedule: &Schedule, league: &League, exchange: &Exchange) -> Tra
     }
 }
 
-/// The runs that an exchange alters.
-pub fn runs_of(schedule: &Schedule, league: &League, exchange: &Exchange) -> CountDelta
+/// The streaks that an exchange alters.
+pub fn streaks_of(schedule: &Schedule, league: &League, exchange: &Exchange) -> CountDelta
     requires same_size { teams league.now ≡ schedule.now.teams }
     requires can_be_made { IsExchange schedule.now exchange.now }
     ensures balance { runs_over (exchanged_by schedule.now exchange.now) league.now.at_most + result.before ≡
@@ -64,8 +64,8 @@ pub fn runs_of(schedule: &Schedule, league: &League, exchange: &Exchange) -> Cou
     ensures after_limit { result.after ≤ max_teams * max_rounds }
 {
     match *exchange {
-        Exchange::Rounds { k, l, among } => runs_of_rounds(schedule, league, k, l, among),
-        Exchange::Teams { i, j, among } => runs_of_teams(schedule, league, i, j, among),
+        Exchange::Rounds { k, l, among } => streaks_of_rounds(schedule, league, k, l, among),
+        Exchange::Teams { i, j, among } => streaks_of_teams(schedule, league, i, j, among),
     }
 }
 

@@ -7,7 +7,7 @@ ghost use Rattle.league.specs.League.{LeagueData};
 ghost use Rattle.fixtures.specs.Games.{Games, IsDoubleRoundRobin};
 ghost use Rattle.fixtures.specs.Changes.{DiffersOnlyIn};
 ghost use Rattle.tours.specs.Tours.{travel};
-ghost use Rattle.tours.specs.Runs.{runs_over};
+ghost use Rattle.tours.specs.Streaks.{runs_over};
 ghost use Rattle.tours.specs.Repeats.{repeats};
 ghost use Rattle.tours.specs.Phased.{unphased, unphased_part};
 ghost use Rattle.tours.specs.Parts.{travel_part, runs_part, repeats_part};
@@ -16,7 +16,7 @@ ghost use Rattle.tours.specs.Parts.{travel_part, runs_part, repeats_part};
 pub fn parts_balance()
     ensures travel { (l : LeagueData) (g g' : Games) (teams rounds : ℕ → Bool) → DiffersOnlyIn g g' teams rounds →
         travel l g' + travel_part l g teams rounds ≡ travel l g + travel_part l g' teams rounds }
-    ensures runs { (g g' : Games) (limit : ℕ) (teams rounds : ℕ → Bool) → DiffersOnlyIn g g' teams rounds →
+    ensures streaks { (g g' : Games) (limit : ℕ) (teams rounds : ℕ → Bool) → DiffersOnlyIn g g' teams rounds →
         runs_over g' limit + runs_part g limit teams rounds ≡ runs_over g limit + runs_part g' limit teams rounds }
     ensures repeats { (g g' : Games) (teams rounds : ℕ → Bool) → DiffersOnlyIn g g' teams rounds →
         repeats g' + repeats_part g rounds ≡ repeats g + repeats_part g' rounds }

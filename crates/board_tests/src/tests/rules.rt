@@ -14,7 +14,7 @@ const SOFT_RULES: &str = r#""rules":[
     {"class":"CA2","kind":"soft","weight":10,"teams1":[1],"mode":"A","teams2":[3,4],"slots":[3,4],"max":0},
     {"class":"GA1","kind":"soft","weight":10,"games":[[1,2]],"slots":[2],"min":1,"max":1}]"#;
 
-const RUNS: &[Step] = &[
+const STREAKS: &[Step] = &[
     See(Cost(30, 2, 0)),
     See(NoBest),
     See(NoBestSchedule),
@@ -24,8 +24,8 @@ const RUNS: &[Step] = &[
 ];
 
 #[test]
-fn runs_make_the_start_no_best(rt: HostRuntime) -> Result<(), Fail> {
-    check_board_with(&rt, rt.alloc(), (1, "\"at_most\":2"), RUNS)
+fn streaks_make_the_start_no_best(rt: HostRuntime) -> Result<(), Fail> {
+    check_board_with(&rt, rt.alloc(), (1, "\"at_most\":2"), STREAKS)
 }
 
 const WORSE: costs::Cost = costs::Cost {

@@ -12,7 +12,7 @@ use Rattle.fixtures.specs.TouchedCells.{TouchedCells}
 use Rattle.fixtures.specs.declared.exchanges.Exchange.{Exchange}
 use Rattle.fixtures.specs.Exchanges.{exchanged_by, IsExchange, main_cells, flipping_team}
 use Rattle.tours.specs.Tours.{travel}
-use Rattle.tours.specs.Runs.{runs_over}
+use Rattle.tours.specs.Streaks.{runs_over}
 use Rattle.tours.specs.Repeats.{repeats}
 use Rattle.tours.specs.Phased.{unphased_part}
 use Rattle.robinx.specs.Laws.{SidesAreMain}
@@ -39,7 +39,7 @@ pub record KnowsRules (l : LeagueData) (scope : Scope) : Type 0 where
   pub both : (i : ℕ) → has scope.rules i ≡ (has scope.first i || has scope.last i)
   pub apart : (i : ℕ) → has scope.first i ≡ true → has scope.last i ≡ false
 
--- the hard costs that no rule asks for, but for pairs in one half: runs, and repeats unless they are free
+-- the hard costs that no rule asks for, but for pairs in one half: streaks, and repeats unless they are free
 abbrev pub games_cost : LeagueData → Games → ℕ
 games_cost l g = runs_over g l.at_most + unless_free l (repeats g)
 
@@ -95,7 +95,7 @@ pub record IsWithin (l : LeagueData) (scope : Scope) (set : ℕ) (g : Games) (co
   pub of_rules : cost.of_rules + (parts_of l scope set g).hard ≤ (cost_of l g).of_rules
   pub soft : cost.soft + (parts_of l scope set g).soft ≤ (cost_of l g).soft
 
--- travel, runs, repeats and what leaving the start costs as they are after the exchange, and all else as it is before it
+-- travel, streaks, repeats and what leaving the start costs as they are after the exchange, and all else as it is before it
 pub record IsPredicted (l : LeagueData) (g : Games) (exchange : Exchange) (predicted : Cost) : Type 0 where
   pub travel_is : predicted.travel ≡ travel l (exchanged_by g exchange)
   pub hard : predicted.hard + games_cost l g ≡ (cost_of l g).hard + games_cost l (exchanged_by g exchange)

@@ -1,4 +1,4 @@
-//! Travel, runs and repeats of whole schedules. The expected numbers were worked by hand from the Berger table of four
+//! Travel, streaks and repeats of whole schedules. The expected numbers were worked by hand from the Berger table of four
 //! teams, and by `scripts/parts/model.py`.
 
 use crate::tests::checks::check_same;
@@ -14,7 +14,7 @@ use tours::{repeats, runs_over, travel, travel_of};
 /// The travel of each of four teams.
 type Tours = [u64; 4];
 
-/// Travel, runs and repeats.
+/// Travel, streaks and repeats.
 type Costs = (u64, u64, u64);
 
 fn tours_of(schedule: &Schedule, league: &League) -> Option<Tours> {

@@ -1,4 +1,4 @@
-//! The parts of travel, of runs and of repeats that a change can alter. The expected numbers were worked by hand from the
+//! The parts of travel, of streaks and of repeats that a change can alter. The expected numbers were worked by hand from the
 //! Berger table of four teams.
 
 use crate::tests::checks::check_same;
@@ -10,7 +10,7 @@ use std::process::Abort;
 use std::test::Fail;
 use tours::{repeats_part, runs_part, travel_part};
 
-/// The legs and the runs of touched teams that touch touched rounds, where the league has as many teams as the schedule.
+/// The legs and the streaks of touched teams that touch touched rounds, where the league has as many teams as the schedule.
 fn parts_of(schedule: &Schedule, league: &League, touched: Touched) -> Option<(u64, u64)> {
     if schedule.teams() != league.teams() {
         return None;

@@ -7,7 +7,7 @@ use Rattle.league.specs.Sums.{sum_where}
 use Rattle.fixtures.specs.Changes.{flips}
 use Rattle.fixtures.specs.Edits.{exchanged}
 use Rattle.fixtures.specs.within.Edits.{is_either}
-use Rattle.tours.specs.Runs.{windows, is_run}
+use Rattle.tours.specs.Streaks.{windows, is_streak}
 use Rattle.tours.specs.Tours.{tour}
 
 -- what a walk over the numbers of a set sums up: two terms of each number, one as it is and one after an exchange
@@ -62,9 +62,9 @@ pub record AreFlips (g : Games) (inner t set : ℕ) : Type 0 where
 abbrev pub HasHomes : Games → ℕ → ℕ → Type 0
 HasHomes g team home = (r : ℕ) → has home r ≡ (nat_lt r (round_count g.teams) && is_home g team r)
 
--- the first rounds of a team's runs of so many rounds
-abbrev pub HasRuns : Games → ℕ → ℕ → ℕ → Type 0
-HasRuns g team length runs = (first : ℕ) → has runs first ≡ (nat_lt first (windows g length) && is_run g team first length)
+-- the first rounds of a team's streaks of so many rounds
+abbrev pub HasStreaks : Games → ℕ → ℕ → ℕ → Type 0
+HasStreaks g team length streaks = (first : ℕ) → has streaks first ≡ (nat_lt first (windows g length) && is_streak g team first length)
 
 -- whom a team meets in the round before the index: itself before the first round and after the last
 abbrev pub met : Games → ℕ → ℕ → ℕ

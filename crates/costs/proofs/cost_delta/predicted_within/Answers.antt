@@ -21,8 +21,8 @@ pub score_by-requires : goal.score_by-requires
 score_by-requires c =
     omega (
       arith,
-      least_scores c.args.league.now c.args.attempt.now.weights (exchanged_by c.args.schedule.now c.args.attempt.now.exchange.now) c.runs_of-runs.result.after
-          (omega (arith, c.runs_of-runs.ensures.balance, c.runs_of-runs.ensures.within)),
+      least_scores c.args.league.now c.args.attempt.now.weights (exchanged_by c.args.schedule.now c.args.attempt.now.exchange.now) c.streaks_of-streaks.result.after
+          (omega (arith, c.streaks_of-streaks.ensures.balance, c.streaks_of-streaks.ensures.within)),
       c.travel_after-travel.ensures,
       score_fits_after c.args.league.now c.args.schedule.now c.args.attempt.now.exchange.now c.args.attempt.now.weights
           c.teams.ensures.limits c.requires.same_size c.requires.weights,
@@ -32,8 +32,8 @@ pub returns-then-score_by-limit : goal.returns-then-score_by-limit
 returns-then-score_by-limit c =
     omega (
       arith,
-      least_scores c.args.league.now c.args.attempt.now.weights (exchanged_by c.args.schedule.now c.args.attempt.now.exchange.now) c.runs_of-runs.result.after
-          (omega (arith, c.runs_of-runs.ensures.balance, c.runs_of-runs.ensures.within)),
+      least_scores c.args.league.now c.args.attempt.now.weights (exchanged_by c.args.schedule.now c.args.attempt.now.exchange.now) c.streaks_of-streaks.result.after
+          (omega (arith, c.streaks_of-streaks.ensures.balance, c.streaks_of-streaks.ensures.within)),
       c.travel_after-travel.ensures,
       c.score_by.ensures,
       c.if-score_by-limit.true,
@@ -61,7 +61,7 @@ overflow_sub-result c =
       arith,
       ap (λ (cost : Cost). cost.hard) c.requires.known,
       games_le c.args.league.now c.args.schedule.now,
-      c.runs_of-runs.ensures.within,
+      c.streaks_of-streaks.ensures.within,
     )
 
 pub overflow_sub-result-2 : goal.overflow_sub-result-2
@@ -70,7 +70,7 @@ overflow_sub-result-2 c =
       arith,
       ap (λ (cost : Cost). cost.hard) c.requires.known,
       games_le c.args.league.now c.args.schedule.now,
-      c.runs_of-runs.ensures.within,
+      c.streaks_of-streaks.ensures.within,
       c.repeats_delta-repeats.ensures.balance,
     )
 
@@ -100,7 +100,7 @@ returns c = record {
     arith,
     ap (λ (cost : Cost). cost.hard) c.requires.known,
     games_le c.args.league.now c.args.schedule.now,
-    c.runs_of-runs.ensures.balance,
+    c.streaks_of-streaks.ensures.balance,
     c.repeats_delta-repeats.ensures.balance,
   );
   soft = omega (

@@ -1,6 +1,6 @@
 use Rattle.std.proofs.Common.{◌<◌, arith}
 use Rattle.league.specs.Sets.{has}
-use Rattle.tours.proofs.runs_and_repeats.RepeatsDelta.{repeats_forward, repeats_back}
+use Rattle.tours.proofs.streaks_and_repeats.RepeatsDelta.{repeats_forward, repeats_back}
 use Rattle.tours.proofs.repeats_delta.repeats_of_rounds.Goals as goal
 
 pub returns-then-k-l-clause-balance : goal.returns-then-k-l-clause-balance

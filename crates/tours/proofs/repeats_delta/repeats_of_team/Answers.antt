@@ -1,7 +1,7 @@
 use Rattle.std.proofs.Common.{sym, ◌∙◌, arith}
 use Rattle.std.proofs.lemmas.Bool.{cond-true, eq-eqb}
 use Rattle.tours.specs.within.Delta.{met}
-use Rattle.tours.proofs.runs_and_repeats.RepeatsDelta.{met_cell, beside_before, beside_after, next_before, next_after}
+use Rattle.tours.proofs.streaks_and_repeats.RepeatsDelta.{met_cell, beside_before, beside_after, next_before, next_after}
 use Rattle.tours.proofs.repeats_delta.repeats_of_team.Goals as goal
 
 pub returns-then-in_k-in_l-clause-before : goal.returns-then-in_k-in_l-clause-before

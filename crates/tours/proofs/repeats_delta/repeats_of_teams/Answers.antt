@@ -4,7 +4,7 @@ use Rattle.std.proofs.lemmas.Bool.{lt-ltb}
 use Rattle.league.specs.Sets.{has}
 use Rattle.fixtures.specs.Games.{IsPair}
 use Rattle.fixtures.proofs.ForCallers.{stays_among_closed}
-use Rattle.tours.proofs.runs_and_repeats.EdgeRepeats.{edges_delta}
+use Rattle.tours.proofs.streaks_and_repeats.EdgeRepeats.{edges_delta}
 use Rattle.tours.proofs.repeats_delta.repeats_of_teams.Goals as goal
 
 pub returns-clause-balance : goal.returns-clause-balance

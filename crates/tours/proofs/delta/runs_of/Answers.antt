@@ -1,6 +1,0 @@
-use Rattle.fixtures.proofs.ForCallers.{of_rounds}
-use Rattle.tours.proofs.delta.runs_of.Goals as goal
-
-pub runs_of_rounds-requires-clause-closed : goal.runs_of_rounds-requires-clause-closed
-runs_of_rounds-requires-clause-closed c =
-    (of_rounds c.args.schedule.now c.args.exchange.now c.requires.can_be_made _ _ _ c.in-Rounds.is).closed
