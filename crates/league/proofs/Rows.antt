@@ -59,10 +59,10 @@ get_or-cut n (suc count) numbers (suc a) b a_below b_below =
 -- the numbers that were cut
 joined-cut : (n count : ℕ) (numbers : List ℕ) → count * n ≤ length numbers → joined (cut n count numbers) ≡ take (count * n) numbers
 unfolding cut
-joined-cut n zero numbers fits = let none : 0 ≡ 0 * n = omega arith in ap (λ m. take m numbers) none
-joined-cut n (suc count) numbers fits =
+joined-cut n zero numbers room = let none : 0 ≡ 0 * n = omega arith in ap (λ m. take m numbers) none
+joined-cut n (suc count) numbers room =
     let more : n + count * n ≡ suc count * n = omega arith in
-    ap (λ rest. take n numbers ++ rest) (joined-cut n count (drop n numbers) (omega (arith, fits, length-drop n numbers)))
+    ap (λ rest. take n numbers ++ rest) (joined-cut n count (drop n numbers) (omega (arith, room, length-drop n numbers)))
     ∙ sym (take-add n (count * n) numbers) ∙ ap (λ m. take m numbers) more
 
 pub joined-table_of : (n : ℕ) (numbers : List ℕ) → HasColumns n (table_of n numbers)

@@ -10,8 +10,8 @@ slice_bounds-result-end c =
     let size : length (texts names) ≡ c.len-teams.result = omega (arith, length-texts names) in
     let numbers = c.self.inside.distances.items in
     let within : length (texts names) * length (texts names) ≤ length numbers = numbers_within _ numbers c.self.invariant.table.columns in
-    let fits : c.len-teams.result * c.len-teams.result ≤ length c.deref.result.now = rw (c.deref.ensures.value, ← size) within in
-    sym (length-take-le (c.len-teams.result * c.len-teams.result) c.deref.result.now fits)
+    let room : c.len-teams.result * c.len-teams.result ≤ length c.deref.result.now = rw (c.deref.ensures.value, ← size) within in
+    sym (length-take-le (c.len-teams.result * c.len-teams.result) c.deref.result.now room)
 
 pub returns : goal.returns
 returns c =
