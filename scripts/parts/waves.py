@@ -18,8 +18,8 @@ KINDS = {
 # is apart: without tries and in the lowest, in those of a repair, and in wide ones
 WEIGHTS, NEAR = (2_000_000, 300_000, 100_000_000, None), (10_000_000, 300_000, 25_000_000, None)
 WIDELY = (10_000_000, 300_000, 100_000_000, None)
-# where rules' breaches weigh apart: in the first half, and after it until there are tries
-RULED_FIRST, RULED = (2_000_000, 300_000, 10_000_000, 12_000_000), (2_000_000, 300_000, 10_000_000, 20_000_000)
+# where rules' breaches weigh apart: in the first half, and after it
+RULED_FIRST, RULED = (2_000_000, 300_000, 10_000_000, 8_000_000), (2_000_000, 300_000, 10_000_000, 20_000_000)
 
 
 def parts(total, count):
@@ -33,7 +33,7 @@ def chain(kind, steps, hot):
     return [(LOOSE, 1500, 300, steps)] if kind == LOOSE else [(FULL, 600, 150, steps)]
 
 
-def first_half(n, effort):
+def first_half(n, effort, apart=False):
     """The kind and the steps of each chain."""
     u = 1000 * n * n
     r, c = min(8 * u, 3_000_000), min(16 * u, 6_000_000)
@@ -44,7 +44,10 @@ def first_half(n, effort):
     if n > 12 and m == 1 and rest * c // (2 * (r + 2 * c)) >= least:
         m = 2
     each = rest * c // (m * (r + 2 * c))
-    if each >= least:
+    if apart:
+        m = min(4, max(1, rest // (2 * u)))
+        groups = m * [[(RIGID, rest // m)]]
+    elif each >= least:
         rigid, loose = [(RIGID, rest // m - 2 * each)], [(LOOSE, each), (FULL if n <= 12 else LOOSE, each)]
         groups = [loose + rigid if i % 2 else rigid + loose for i in range(m)]
     else:
@@ -63,14 +66,16 @@ def hottest(leg, steps):
     return low + min((high - low) * 2 * 1000 * ((steps - 1) // 1000) // share, high - low)
 
 
-def cooled(leg, steps):
-    """The legs that follow on one that heats, after so many steps."""
+def cooled(leg, steps, source):
+    """The legs that follow on one that heats, after so many steps: on one of a copy they end where cycles end."""
     kinds, _, _, share = leg
-    return [(kinds, max(hottest(leg, steps), 100), 100, share - steps)] if steps < share else []
+    cold = 150 if source == "Copies" else 100
+    return [(kinds, max(hottest(leg, steps), cold), cold, share - steps)] if steps < share else []
 
 
 def search(n, effort, goes_on=False, breaks_rules=False):
-    apart, chains = breaks_rules and n > 12, first_half(n, effort)
+    apart = breaks_rules and n > 12
+    chains = first_half(n, effort, apart)
     left = effort - sum(steps for _, steps in chains)
     field = min(4, max(1, left // (5000 * n * n)), len(chains))
     bouts = [chain(kind, steps, 3000 if apart else 2000) for kind, steps in chains]
@@ -82,30 +87,28 @@ def search(n, effort, goes_on=False, breaks_rules=False):
         yield from search_tries(n, left)
         return
     levels = {1: 0, 2: 1, 3: 2, 4: 2}[field]
-    level, peaks = left // (levels + 2), 8 * ((500, 400, 600, 300) if n <= 12 else (300, 250, 400, 200))
+    level, peaks = left // (levels + 2), 8 * ((500, 400, 600, 300) if n <= 12 or apart else (300, 250, 400, 200))
     while field > 1:
         bouts = [[(FULL, peak, 150, steps) for peak, steps in zip(peaks, parts(share, 2))] for share in parts(level, field)]
         peaks, left, field = peaks[2:], left - level, (field + 1) // 2
         came_to = yield "Own", field, bouts, weights
         was_feasible = was_feasible or any(end is not None for end in came_to)
-    # the peaks of the first cycles, after which tries come if nothing was feasible, and of the others
-    soon, later = peaks[:8], peaks[8:16]
-    for i, peak in enumerate(soon):
+    most = 1000
+    for i, peak in enumerate(peaks[:16]):
         if left > 0:
             steps = max(1, left // (16 - i))
             left -= steps
-            came_to = yield "Copies", 1, copied(FULL, peak, 150, steps), weights
+            seeks = apart and not was_feasible
+            bouts = [[(FULL, 300, 1000, share)] for share in parts(steps, 4)] if seeks else copied(FULL, most * peak // 1000, 150, steps)
+            came_to = yield "Copies", 1, bouts, weights
             was_feasible = was_feasible or any(end is not None for end in came_to)
-    if was_feasible:
-        yield from copies(left, FULL, later, 150, weights)
-    else:
-        # the peaks come in turn, also after the tries: the next one has this place among the four
-        yield from search_tries(n, left, (len(soon) + 2 * levels) % 4)
+            if seeks:
+                most = min([most, *(hot for hot in came_to if hot is not None)])
 
 
-def search_tries(n, left, turn=0):
+def search_tries(n, left):
     low = [(FULL, 300, 800, WEIGHTS)] if left // 2 >= 4000 * n * n else []
-    return tries(left, [*low, (FULL, 1000, 5000, NEAR), (FULL, 1000, 20000, WIDELY)], turn)
+    return tries(left, [*low, (FULL, 1000, 5000, NEAR), (FULL, 1000, 20000, WIDELY)])
 
 
 def copied(kinds, peak, cold, steps):
@@ -121,8 +124,8 @@ def copies(left, kinds, peaks, cold, weights):
             yield "Copies", 1, copied(kinds, peak, cold, steps), weights
 
 
-def tries(left, reaches, turn=0):
-    """Tries to become feasible, with wider reaches while none does, and what follows on them, from the peak at this place."""
+def tries(left, reaches):
+    """Tries to become feasible, with wider reaches while none does, and what follows on them."""
     for kinds, least, most, weights in reaches:
         if left == 0:
             return
@@ -134,7 +137,7 @@ def tries(left, reaches, turn=0):
         if feasible:
             most = min(feasible)
             break
-    times = (5 * (500, 750, 250, 1000))[turn : turn + 16] if count == 4 else (5 * (1000, 850))[turn : turn + 8]
+    times = 4 * (500, 750, 250, 1000) if count == 4 else 4 * (1000, 850)
     yield from copies(left, kinds, [most * part // 1000 for part in times], 100, weights)
 
 

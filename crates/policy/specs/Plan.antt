@@ -8,9 +8,9 @@ use Rattle.policy.specs.declared.legs.Leg.{Leg}
 use Rattle.policy.specs.declared.legs.LegEnd.{LegEnd}
 use Rattle.policy.specs.declared.legs.WeightCourse.{WeightCourse}
 use Rattle.policy.specs.declared.numbers.Heating.{Heating}
-use Rattle.policy.specs.declared.numbers.TheConstants.{LOW, NEAR, WIDE, RULED_FIRST, RULED}
+use Rattle.policy.specs.declared.numbers.TheConstants.{LOW, NEAR, WIDE, RULED_FIRST, RULED, SEEKING}
 use Rattle.policy.specs.declared.plan.Bouts.{Bouts}
-use Rattle.policy.specs.declared.plan.Bouts.TheVariants.{FirstHalf, Tries, Level, Copies}
+use Rattle.policy.specs.declared.plan.Bouts.TheVariants.{FirstHalf, Tries, Level, Copies, Seeking}
 use Rattle.policy.specs.declared.plan.Plan.{Plan}
 use Rattle.policy.specs.declared.plan.Reach.{Reach}
 use Rattle.policy.specs.declared.plan.Reach.TheVariants.{Untried, Low, Near, Wide}
@@ -25,21 +25,17 @@ heating_of Low = LOW
 heating_of Near = NEAR
 heating_of Wide = WIDE
 
--- what a breach weighs where rules' breaches weigh apart and there was no try yet
+-- what a breach weighs where rules' breaches weigh apart
 abbrev pub ruled_in : Bouts → WeightCourse
 ruled_in (FirstHalf chains) = RULED_FIRST
 ruled_in (Tries shares) = RULED
 ruled_in (Level shares) = RULED
 ruled_in (Copies shares) = RULED
+ruled_in (Seeking shares) = RULED
 
-abbrev pub weights_among : Plan → Reach → WeightCourse
-weights_among p Untried = if p.apart then ruled_in p.bouts else LOW.weights
-weights_among p Low = LOW.weights
-weights_among p Near = NEAR.weights
-weights_among p Wide = WIDE.weights
-
+-- and otherwise
 abbrev pub weights_of : Plan → WeightCourse
-weights_of p = weights_among p p.reach
+weights_of p = if p.apart then ruled_in p.bouts else (heating_of p.reach).weights
 
 abbrev pub heat_of : Heating → Course
 heat_of h = Heats h.from h.to
@@ -69,6 +65,7 @@ bout_among p (FirstHalf chains) number = bout_in_first_half chains number
 bout_among p (Tries shares) number = single p.moves (heat_of (heating_of p.reach)) (share_of shares number)
 bout_among p (Level shares) number = two_cycles p (share_of shares number)
 bout_among p (Copies shares) number = single p.moves (cycle_of p 0) (share_of shares number)
+bout_among p (Seeking shares) number = single p.moves SEEKING (share_of shares number)
 
 abbrev pub bout_of : Plan → ℕ → Bout
 bout_of p number = bout_among p p.bouts number

@@ -1,11 +1,11 @@
 -- The policy: what is left of the effort, and which wave may come next.
 use Rattle.std.specs.Prelude.{◌≡◌, ℕ, ◌+◌, ◌/◌, ◌==◌, ◌≤◌, min, if◌then◌else◌}
-use Rattle.std.specs.Prelude.{Bool, true, false, ◌&&◌, nat_le, nat_lt, Option, Some, None}
+use Rattle.std.specs.Prelude.{Bool, true, false, ◌&&◌, ◌||◌, nat_le, nat_lt, Option, Some, None}
 use Rattle.policy.specs.declared.legs.Leg.{Leg}
 use Rattle.policy.specs.declared.legs.MoveSet.{MoveSet}
 use Rattle.policy.specs.declared.legs.MoveSet.TheVariants.{Full, Repair as RepairMoves}
 use Rattle.policy.specs.declared.numbers.Cycles.{Cycles}
-use Rattle.policy.specs.declared.numbers.TheConstants.{FEW_SECOND_HALF, FEW_TEAMS, SECOND_HALF, UNIT}
+use Rattle.policy.specs.declared.numbers.TheConstants.{FEW_TEAMS, HOT_SECOND_HALF, SECOND_HALF, UNIT}
 use Rattle.policy.specs.declared.plan.Plan.{Plan}
 use Rattle.policy.specs.declared.plan.Reach.TheVariants.{Untried}
 use Rattle.policy.specs.declared.waves.Aim.{Aim}
@@ -46,9 +46,9 @@ searches_for Repair = false
 abbrev pub weighs_apart : Facts → Bool
 weighs_apart facts = facts.breaks_rules && nat_lt FEW_TEAMS facts.teams && searches_for facts.aim
 
--- by which cycles a second half of so many teams goes
-abbrev pub second_half_for : ℕ → Cycles
-second_half_for teams = if nat_le teams FEW_TEAMS then FEW_SECOND_HALF else SECOND_HALF
+-- by which cycles the second half goes: hotter ones where few teams play or rules' breaches weigh apart
+abbrev pub second_half_for : ℕ → Bool → Cycles
+second_half_for teams apart = if apart || nat_le teams FEW_TEAMS then HOT_SECOND_HALF else SECOND_HALF
 
 -- a plan by which nothing was done yet
 pub record IsNewPlan (facts : Facts) (p : Plan) : Type 0 where
@@ -57,8 +57,8 @@ pub record IsNewPlan (facts : Facts) (p : Plan) : Type 0 where
   pub apart : p.apart ≡ weighs_apart facts
   pub moves : p.moves ≡ moves_for facts.aim
   pub reach : p.reach ≡ Untried
-  pub cycles : p.cycles ≡ second_half_for facts.teams
-  pub cycles_left : p.cycles_left ≡ (second_half_for facts.teams).count
+  pub cycles : p.cycles ≡ second_half_for facts.teams (weighs_apart facts)
+  pub cycles_left : p.cycles_left ≡ (second_half_for facts.teams (weighs_apart facts)).count
   pub next_peak : p.next_peak ≡ 0
   pub hottest : p.hottest ≡ UNIT
   pub feasible : p.feasible ≡ false

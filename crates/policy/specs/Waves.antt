@@ -1,11 +1,11 @@
 -- Waves: which one comes next, and what it makes of the plan.
-use Rattle.std.specs.Prelude.{◌≡◌, ◌≢◌, ◌⊎◌, ℕ, ◌+◌, ◌%◌, ◌==◌, ◌≤◌, ◌<◌, if◌then◌else◌, true}
+use Rattle.std.specs.Prelude.{◌≡◌, ◌≢◌, ◌⊎◌, ℕ, ◌+◌, ◌%◌, ◌==◌, ◌≤◌, ◌&&◌, not, if◌then◌else◌, Bool, true, false}
 use Rattle.policy.specs.declared.bouts.Shares.{Shares}
 use Rattle.policy.specs.declared.legs.MoveSet.{MoveSet}
 use Rattle.policy.specs.declared.legs.MoveSet.TheVariants.{Full, Repair, WideRepair}
-use Rattle.policy.specs.declared.numbers.TheConstants.{AFTER_FEW, AFTER_MORE, LEAST_TRIES, PATIENCE}
+use Rattle.policy.specs.declared.numbers.TheConstants.{AFTER_FEW, AFTER_MORE, LEAST_TRIES}
 use Rattle.policy.specs.declared.plan.Bouts.{Bouts}
-use Rattle.policy.specs.declared.plan.Bouts.TheVariants.{FirstHalf, Tries, Level, Copies}
+use Rattle.policy.specs.declared.plan.Bouts.TheVariants.{FirstHalf, Tries, Level, Copies, Seeking}
 use Rattle.policy.specs.declared.plan.Plan.{Plan}
 use Rattle.policy.specs.declared.plan.Reach.{Reach}
 use Rattle.policy.specs.declared.plan.Reach.TheVariants.{Untried, Low, Near, Wide}
@@ -14,26 +14,25 @@ use Rattle.policy.specs.declared.waves.Wave.{Wave}
 use Rattle.policy.specs.FirstHalf.{count_in}
 use Rattle.policy.specs.Plan.{heating_of}
 
--- where rules' breaches weigh apart, tries wait until half of the cycles for one chain are through
-pub record DoesWait (p : Plan) : Type 0 where
-  pub apart : p.apart ≡ true
-  pub untried : p.reach ≡ Untried
-  pub patience : PATIENCE < p.cycles_left
-
--- a chain was feasible, no try reaches further, or tries wait
+-- a chain was feasible, no try reaches further, or rules' breaches weigh apart: chains go on then though none is feasible
 abbrev pub IsSettled : Plan → Type 0
-IsSettled p = (p.feasible ≡ true) ⊎ (p.reach ≡ Wide) ⊎ DoesWait p
+IsSettled p = (p.feasible ≡ true) ⊎ (p.reach ≡ Wide) ⊎ (p.apart ≡ true)
 
 -- a repair begins with tries, and they come as long as none was feasible
 abbrev pub WantsTries : ℕ → Plan → Type 0
 WantsTries field p = ((field ≡ 0) × (p.moves ≢ Full)) ⊎ ((1 ≤ field) × ¬ IsSettled p)
+
+-- where rules' breaches weigh apart, copies seek a feasible schedule as long as no chain had one
+abbrev pub seeks : Plan → Bool
+seeks p = p.apart && not p.feasible
 
 -- which bouts come next, with so many chains in the field
 abbrev pub AreDue : ℕ → Plan → Bouts → Type 0
 AreDue field p (FirstHalf chains) = (field ≡ 0) × (p.moves ≡ Full) × (chains.apart ≡ p.apart)
 AreDue field p (Tries shares) = WantsTries field p
 AreDue field p (Level shares) = (2 ≤ field) × IsSettled p
-AreDue field p (Copies shares) = (field ≡ 1) × IsSettled p
+AreDue field p (Copies shares) = (field ≡ 1) × IsSettled p × (seeks p ≡ false)
+AreDue field p (Seeking shares) = (field ≡ 1) × (seeks p ≡ true)
 
 -- the wave has these bouts
 abbrev pub HasBouts : Bouts → Wave → Type 0
@@ -41,6 +40,7 @@ HasBouts (FirstHalf chains) w = (w.source ≡ Start) × (w.bouts ≡ count_in ch
 HasBouts (Tries shares) w = (w.source ≡ Start) × (w.bouts ≡ shares.bouts)
 HasBouts (Level shares) w = (w.source ≡ Own) × (w.bouts ≡ shares.bouts)
 HasBouts (Copies shares) w = (w.source ≡ OfFirst) × (w.bouts ≡ shares.bouts)
+HasBouts (Seeking shares) w = (w.source ≡ OfFirst) × (w.bouts ≡ shares.bouts)
 
 -- how many cycles each chain has in these bouts
 abbrev pub cycles_in : Bouts → ℕ
@@ -48,6 +48,7 @@ cycles_in (FirstHalf chains) = 0
 cycles_in (Tries shares) = 0
 cycles_in (Level shares) = 2
 cycles_in (Copies shares) = 1
+cycles_in (Seeking shares) = 1
 
 -- tries reach further than those before them
 abbrev pub ReachesFurther : Reach → Reach → Type 0

@@ -10,7 +10,7 @@ use crate::legs::{Course, Leg, MoveSet};
 use crate::numbers::{
     COOL, EARLY_PART, FEW_LOOSE_LEAST, FEW_TEAMS, FIELD_LIMIT, FIELD_SPANS, HOT, HOTTER,
     LEAST_GROUPS, LOOSE_LEAST, LOOSE_LIMIT, LOOSE_SPANS, MILD, MILD_TENTHS, RIGID_LIMIT,
-    RIGID_SPANS, TEPID, WARM,
+    RIGID_SPANS, RULED_GROUPS, RULED_LEAST, TEPID, WARM,
 };
 
 /// More groups than any effort has.
@@ -22,7 +22,7 @@ const MAX_GROUPS: u64 = 10_000_000;
 pub(crate) struct FirstHalf {
     /// Whether the first chain goes on from the start. Otherwise it is rigid.
     goes_on: bool,
-    /// Whether rules' breaches weigh apart. Rigid chains are hotter then.
+    /// Whether rules' breaches weigh apart. All chains are rigid then, and hotter.
     apart: bool,
     /// The steps of the first chain.
     early: u64,
@@ -61,7 +61,9 @@ impl FirstHalf {
         let least = span(teams) * if few { FEW_LOOSE_LEAST } else { LOOSE_LEAST };
         let of_three = groups(rest, three).max(least_groups(few, least, loose));
         let loose = loose / u64::from(of_three);
-        let (groups, loose) = if least <= loose {
+        let (groups, loose) = if apart {
+            (ruled_groups(rest, RULED_LEAST * span(teams)), 0)
+        } else if least <= loose {
             (of_three, loose)
         } else {
             (groups(rest, rigid_limit), 0)
@@ -146,6 +148,15 @@ fn least_groups(few: bool, least: u64, loose: u64) -> u32
     } else {
         1
     }
+}
+
+/// How many groups there are where rules' breaches weigh apart, if each is to have so many steps.
+fn ruled_groups(rest: u64, least: u64) -> u32
+    requires { 1 ≤ least }
+    ensures least { 1 ≤ result }
+    ensures most { result ≤ 10000000 }
+{
+    (rest / least).clamp(1, RULED_GROUPS) as u32
 }
 
 /// How a rigid chain cools first.

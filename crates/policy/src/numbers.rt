@@ -38,6 +38,11 @@ pub(crate) const RIGID_LIMIT: u64 = 3_000_000;
 pub(crate) const LOOSE_SPANS: u64 = 16;
 
 pub(crate) const LOOSE_LIMIT: u64 = 6_000_000;
+/// How copies of a chain heat that seek a feasible schedule.
+pub(crate) const SEEKING: Course = Course::Heats {
+    from: 300,
+    to: 1000,
+};
 /// Up to so many teams are few.
 pub(crate) const FEW_TEAMS: u8 = 12;
 /// Loose chains that would be shorter are left out: where few teams play, and elsewhere.
@@ -68,8 +73,8 @@ pub(crate) struct Cycles {
     pub(crate) cold: u32,
 }
 
-/// Of the second half: where few teams play, and elsewhere. The hottest is the unit.
-pub(crate) const FEW_SECOND_HALF: Cycles = Cycles {
+/// Of the second half: where few teams play or rules' breaches weigh apart, and elsewhere. The hottest is the unit.
+pub(crate) const HOT_SECOND_HALF: Cycles = Cycles {
     count: 16,
     peaks: [500, 400, 600, 300],
     cold: 150,
@@ -139,12 +144,12 @@ pub(crate) const WIDE: Heating = Heating {
     },
 };
 
-/// Where rules' breaches weigh apart and there was no try yet: in the first half, and after it.
+/// Where rules' breaches weigh apart: in the first half, and after it.
 pub(crate) const RULED_FIRST: WeightCourse = WeightCourse {
     first: 2_000_000,
     least: 300_000,
     most: 10_000_000,
-    rule: Some(12_000_000),
+    rule: Some(8_000_000),
 };
 
 pub(crate) const RULED: WeightCourse = WeightCourse {
@@ -153,5 +158,7 @@ pub(crate) const RULED: WeightCourse = WeightCourse {
     most: 10_000_000,
     rule: Some(20_000_000),
 };
-/// There tries come only once so few cycles are left for one chain.
-pub(crate) const PATIENCE: u32 = 8;
+/// There the first half has so many groups, each of a rigid chain, or fewer if one gets less than so many spans.
+pub(crate) const RULED_GROUPS: u64 = 4;
+
+pub(crate) const RULED_LEAST: u64 = 2;

@@ -7,8 +7,8 @@ use crate::bouts::{Bout, Shares};
 use crate::first_half::{FirstHalf, field_for, span};
 use crate::legs::{Course, Leg, LegEnd, MoveSet, WeightCourse};
 use crate::numbers::{
-    AFTER_FEW, AFTER_MORE, COPIES, Cycles, FEW_SECOND_HALF, FEW_TEAMS, Heating, LEAST_TRIES, LOW,
-    NEAR, PATIENCE, RULED, RULED_FIRST, SECOND_HALF, TRY_STEPS, UNIT, WIDE,
+    AFTER_FEW, AFTER_MORE, COPIES, Cycles, FEW_TEAMS, HOT_SECOND_HALF, Heating, LEAST_TRIES, LOW,
+    NEAR, RULED, RULED_FIRST, SECOND_HALF, SEEKING, TRY_STEPS, UNIT, WIDE,
 };
 use crate::waves::{Aim, Facts, Source, Wave};
 
@@ -22,6 +22,8 @@ enum Bouts {
     Level(Shares),
     /// Each cools once.
     Copies(Shares),
+    /// Each heats until it is feasible, and then cools.
+    Seeking(Shares),
 }
 
 /// How far tries heat until they are feasible, and what a breach weighs then. It widens as long as none was.
@@ -68,18 +70,19 @@ impl Plan {
     ghost use Rattle.policy.specs.Legs.{DoesCool, IsCourse, IsWeightCourse};
     ghost use Rattle.policy.specs.Plan.{bout_of, cools_from, cycle_of, heat_of, heating_of, leg_after, plan_after, ruled_in, two_cycles, weights_of};
     ghost use Rattle.policy.specs.Policy.{IsNewPlan, IsNextWave, second_half_for};
-    ghost use Rattle.policy.specs.Waves.{DoesWait, IsNextPlan, IsSettled, ReachesFurther, WantsTries, cycles_in, moves_from};
+    ghost use Rattle.policy.specs.Waves.{IsNextPlan, IsSettled, ReachesFurther, WantsTries, cycles_in, moves_from};
 
     /// The plan before its first wave.
     pub(crate) fn new(facts: Facts) -> Self
         requires { 4 ≤ facts.teams }
         ensures { IsNewPlan facts result }
     {
-        let cycles = Self::second_half(facts.teams);
+        let apart = facts.breaks_rules && facts.teams > FEW_TEAMS && facts.aim != Aim::Repair;
+        let cycles = Self::second_half(facts.teams, apart);
         Plan {
             teams: facts.teams,
             goes_on: facts.aim == Aim::GoOn,
-            apart: facts.breaks_rules && facts.teams > FEW_TEAMS && facts.aim != Aim::Repair,
+            apart,
             moves: match facts.aim {
                 Aim::Anew | Aim::GoOn => MoveSet::Full,
                 Aim::Repair => MoveSet::Repair,
@@ -97,12 +100,12 @@ impl Plan {
     }
 
     /// The cycles of the second half.
-    fn second_half(teams: u8) -> Cycles
-        ensures value { result ≡ second_half_for teams }
+    fn second_half(teams: u8, apart: bool) -> Cycles
+        ensures value { result ≡ second_half_for teams apart }
         ensures some { 1 ≤ result.count }
     {
-        if teams <= FEW_TEAMS {
-            FEW_SECOND_HALF
+        if apart || teams <= FEW_TEAMS {
+            HOT_SECOND_HALF
         } else {
             SECOND_HALF
         }
@@ -133,15 +136,7 @@ impl Plan {
         ensures yes { result ≡ true → WantsTries field self.now }
         ensures no { result ≡ false → (1 ≤ field) × IsSettled self.now }
     {
-        field == 0 || (!self.feasible && self.reach != Reach::Wide && !self.waits())
-    }
-
-    /// Whether tries wait: where rules' breaches weigh apart chains go on at first though none is feasible.
-    fn waits(&self) -> bool
-        ensures yes { result ≡ true → DoesWait self.now }
-        ensures no { result ≡ false → ¬ DoesWait self.now }
-    {
-        self.apart && self.reach == Reach::Untried && self.cycles_left > PATIENCE
+        field == 0 || (!self.feasible && self.reach != Reach::Wide && !self.apart)
     }
 
     /// The wave of the first half.
@@ -233,7 +228,7 @@ impl Plan {
         }
     }
 
-    /// A wave in which copies of the best chain have a cycle each.
+    /// A wave in which copies of the best chain have a cycle each, or seek a feasible schedule.
     fn copies(&mut self, left: u64) -> Wave
         requires settled { IsSettled self.old }
         ensures wave { IsNextWave 1 result }
@@ -241,10 +236,15 @@ impl Plan {
     {
         let steps = left / u64::from(self.cycles_left);
         self.cycles_left = self.cycles_left.saturating_sub(1).max(1);
-        self.begin(Bouts::Copies(Shares {
+        let shares = Shares {
             steps: steps.max(1),
             bouts: COPIES,
-        }));
+        };
+        self.begin(if self.apart && !self.feasible {
+            Bouts::Seeking(shares)
+        } else {
+            Bouts::Copies(shares)
+        });
         Wave {
             source: Source::Copies,
             bouts: COPIES,
@@ -261,7 +261,7 @@ impl Plan {
         let had = match self.bouts {
             Bouts::FirstHalf(_) | Bouts::Tries(_) => 0,
             Bouts::Level(_) => 2,
-            Bouts::Copies(_) => 1,
+            Bouts::Copies(_) | Bouts::Seeking(_) => 1,
         };
         self.next_peak = (self.next_peak + had) % 4;
         self.bouts = bouts;
@@ -280,6 +280,7 @@ impl Plan {
             Bouts::FirstHalf(first_half) => first_half.bout(number),
             Bouts::Tries(shares) => Bout::single(self.moves, self.heats(), shares.of(number)),
             Bouts::Copies(shares) => Bout::single(self.moves, self.cools(0), shares.of(number)),
+            Bouts::Seeking(shares) => Bout::single(self.moves, SEEKING, shares.of(number)),
             Bouts::Level(shares) => self.two_cycles(shares.of(number)),
         }
     }
@@ -381,7 +382,7 @@ impl Plan {
         }
     }
 
-    /// The weights where rules' breaches weigh apart and there was no try yet.
+    /// The weights where rules' breaches weigh apart.
     fn ruled(&self) -> WeightCourse
         ensures value { result ≡ ruled_in self.now.bouts }
         ensures range { IsWeightCourse result }
@@ -397,7 +398,7 @@ impl Plan {
         ensures value { result ≡ weights_of self.now }
         ensures range { IsWeightCourse result }
     {
-        if self.apart && self.reach == Reach::Untried {
+        if self.apart {
             return self.ruled();
         }
         self.heating().weights

@@ -119,10 +119,10 @@ const ROWS: [Row; 24] = [
     (STUCK, [19, 76, 78_068, 424_274_771_135_692_392]),
     (STUCK_TEN, [20, 86, 86_830, 477_020_975_561_216_241]),
     (STUCK_FOUR, [10, 18, 22_448, 24_963_032_183_610_521]),
-    (RULED, [17, 68, 62_834, 12_985_776_099_360_480]),
-    (RULED_HEATED, [27, 114, 155_220, 105_523_923_798_148_968]),
-    (RULED_STUCK, [30, 130, 191_245, 955_184_272_021_181_142]),
-    (RULED_GOING, [17, 67, 62_834, 12_985_776_099_143_294]),
+    (RULED, [17, 68, 62_834, 17_219_376_131_034_080]),
+    (RULED_HEATED, [18, 82, 70_158, 44_715_695_370_149_802]),
+    (RULED_STUCK, [19, 86, 77_823, 105_659_952_892_635_313]),
+    (RULED_GOING, [17, 67, 62_834, 17_219_376_130_816_894]),
     (RULED_FEW, [18, 78, 70_476, 39_516_864_340_286_723]),
     (RULED_REPAIR, [18, 72, 70_446, 391_221_218_913_717_439]),
 ];
@@ -168,16 +168,16 @@ const LEGS: [Shown; 28] = [
     (STUCK_TEN, [2, 3, 0], MoveSet::Full, [1000, 5000, 312_500]),
     (STUCK_TEN, [7, 3, 0], MoveSet::Full, [20_000, 100, 9765]),
     (RULED, [0, 0, 0], MoveSet::Rigid, [3000, 500, 43_750]),
-    (RULED_HEATED, [1, 1, 1], MoveSet::Full, [250, 150, 416_666]),
-    (RULED_HEATED, [7, 3, 0], MoveSet::Full, [200, 150, 52_083]),
-    (RULED_HEATED, [13, 3, 0], MoveSet::Full, [700, 100, 13_020]),
-    (RULED_STUCK, [0, 6, 0], MoveSet::Rigid, [3000, 500, 918_750]),
+    (RULED_HEATED, [2, 0, 1], MoveSet::Full, [1000, 150, 51_084]),
+    (RULED_HEATED, [7, 3, 0], MoveSet::Full, [210, 150, 52_083]),
+    (RULED_HEATED, [13, 3, 0], MoveSet::Full, [280, 150, 52_083]),
     (
         RULED_STUCK,
-        [13, 3, 0],
-        MoveSet::Full,
-        [1000, 20_000, 117_187],
+        [0, 4, 0],
+        MoveSet::Rigid,
+        [3000, 500, 2_296_875],
     ),
+    (RULED_STUCK, [13, 3, 0], MoveSet::Full, [300, 1000, 117_187]),
     (RULED_FEW, [0, 0, 0], MoveSet::Rigid, [2000, 500, 437_500]),
 ];
 
@@ -225,7 +225,7 @@ fn check_walk(rt: &impl Abort, walk: Walk)
     });
     let holds = totals.taken == walk.facts.effort
         && totals.thirds == 0
-        && totals.waves <= if walk.facts.breaks_rules { 30 } else { 20 }
+        && totals.waves <= 20
         && (walk.facts.aim == Aim::Repair || totals.early <= (walk.facts.effort / 16).max(1))
         && overlapping == totals;
     assert!(rt; holds, "{walk:?} {totals:?} {overlapping:?}");
@@ -328,11 +328,8 @@ fn weights_of_a_breach(rt: HostRuntime) {
     assert_eq!(rt; weights(16, Aim::Repair, true), repair);
     assert_eq!(rt; weights(12, Aim::Anew, true), search);
     assert_eq!(rt; weights(16, Aim::GoOn, false), search);
-    // two levels and eight cycles come before the tries
     let mut ruled = [of(2_000_000, 10_000_000, Some(20_000_000)); 13];
-    ruled[0] = of(2_000_000, 10_000_000, Some(12_000_000));
-    ruled[11] = low;
-    ruled[12] = near;
+    ruled[0] = of(2_000_000, 10_000_000, Some(8_000_000));
     assert_eq!(rt; weights(16, Aim::Anew, true), ruled);
     assert_eq!(rt; weights(16, Aim::GoOn, true), ruled);
 }

@@ -91,7 +91,7 @@ def in_line(counts):
             if not entrant.standing[0] and came_to[place] is None:
                 came_to[place] = waves.hottest(leg, entrant.steps) if waves.heats(leg) else True
             if waves.heats(leg):
-                legs = waves.cooled(leg, entrant.steps)
+                legs = waves.cooled(leg, entrant.steps, source)
             if legs:
                 line.append((entrant.at_best(), place, legs, next(streams)))
             else:

@@ -4,8 +4,8 @@ usage: scripts/oracle policy
 
 What a leg that heats comes to is made up, by arithmetic on its bout: it becomes feasible after
 one to five thousand steps, or never. So of the walks that are no repairs, "heated" and "stuck" ones have a first half without a feasible
-version, and the tries after it become feasible or never. Those that are "going" have a first chain that goes on from a given start. Starts
-of the last walks break hard rules."""
+version, and the tries after it, if they come, become feasible or never. Those that are "going" have a first chain that goes on from a
+given start. Starts of the last walks break hard rules."""
 from ..waves import cooled, heats, repair, search
 
 WALKS = (
@@ -38,16 +38,16 @@ WALKS = (
 SHOWN = ((0, 0, 0), (0, 1, 1), (0, 3, 0), (0, 4, 0), (0, 6, 0), (1, 0, 0), (1, 1, 1), (2, 0, 1), (2, 3, 0), (7, 3, 0), (13, 3, 0))
 
 
-def legs_of(bout, number, feasible):
+def legs_of(bout, number, feasible, source):
     """The legs of a bout, and what it came to."""
     leg, *more = bout
     if not heats(leg):
         return [leg, *more], True if feasible == "all" else None
     if feasible == "never":
-        return [leg, *cooled(leg, leg[3])], None
+        return [leg, *cooled(leg, leg[3], source)], None
     moves, _, most, share = leg
     steps, hot = min(share, 1000 * (1 + number % 5)), min(most, 1700) - number % 5 * 100
-    return [leg, (moves, hot, 100, share - steps)], hot
+    return [leg, (moves, hot, 150 if source == "Copies" else 100, share - steps)], hot
 
 
 def show(n, effort, repairs, breaks_rules=False):
@@ -61,7 +61,7 @@ def show(n, effort, repairs, breaks_rules=False):
         of_waves += (number + 1) * (100 * len(bouts) + 10 * keep + ("Start", "Own", "Copies").index(source))
         came_to = []
         for b, bout in enumerate(bouts):
-            taken, end = legs_of(bout, b, feasible)
+            taken, end = legs_of(bout, b, feasible, source)
             came_to.append(end)
             for place, leg in enumerate(taken):
                 if leg[3] == 0:
