@@ -1,6 +1,6 @@
 -- The plan: what the bouts of its wave do, and what it makes of how a leg ended.
 use Rattle.std.specs.Prelude.{◌≡◌, ◌⊎◌, ℕ, ◌+◌, ◌-◌, ◌*◌, ◌/◌, ◌%◌, ◌||◌, max, min}
-use Rattle.std.specs.Prelude.{slice_index, nat_le, if◌then◌else◌, is_some}
+use Rattle.std.specs.Prelude.{slice_index, if◌then◌else◌, is_some}
 use Rattle.policy.specs.declared.bouts.Bout.{Bout}
 use Rattle.policy.specs.declared.legs.Course.{Course}
 use Rattle.policy.specs.declared.legs.Course.TheVariants.{Cools, Heats}
@@ -8,7 +8,7 @@ use Rattle.policy.specs.declared.legs.Leg.{Leg}
 use Rattle.policy.specs.declared.legs.LegEnd.{LegEnd}
 use Rattle.policy.specs.declared.legs.WeightCourse.{WeightCourse}
 use Rattle.policy.specs.declared.numbers.Heating.{Heating}
-use Rattle.policy.specs.declared.numbers.TheConstants.{LOW, NEAR, WIDE, PATIENCE, RULED_FIRST, RULED, SEEKING, SEEKING_FURTHER}
+use Rattle.policy.specs.declared.numbers.TheConstants.{LOW, NEAR, WIDE, RULED_FIRST, RULED, SEEKING}
 use Rattle.policy.specs.declared.plan.Bouts.{Bouts}
 use Rattle.policy.specs.declared.plan.Bouts.TheVariants.{FirstHalf, Tries, Level, Copies, Seeking}
 use Rattle.policy.specs.declared.plan.Plan.{Plan}
@@ -33,7 +33,7 @@ ruled_in (Level shares) = RULED
 ruled_in (Copies shares) = RULED
 ruled_in (Seeking shares) = RULED
 
--- what a breach weighs in the present wave
+-- and otherwise
 abbrev pub weights_of : Plan → WeightCourse
 weights_of p = if p.apart then ruled_in p.bouts else (heating_of p.reach).weights
 
@@ -52,10 +52,6 @@ peak_of p number = min (p.hottest * slice_index p.cycles.peaks number / 1000) p.
 abbrev pub cycle_of : Plan → ℕ → Course
 cycle_of p later = cools_from p (peak_of p ((p.next_peak + later) % 4))
 
--- how copies heat that seek a feasible schedule: further in the last cycles
-abbrev pub seeking_of : Plan → Course
-seeking_of p = if nat_le PATIENCE p.cycles_left then SEEKING else SEEKING_FURTHER
-
 -- two cycles with so many steps
 abbrev pub two_cycles : Plan → ℕ → Bout
 two_cycles p steps = record {
@@ -69,7 +65,7 @@ bout_among p (FirstHalf chains) number = bout_in_first_half chains number
 bout_among p (Tries shares) number = single p.moves (heat_of (heating_of p.reach)) (share_of shares number)
 bout_among p (Level shares) number = two_cycles p (share_of shares number)
 bout_among p (Copies shares) number = single p.moves (cycle_of p 0) (share_of shares number)
-bout_among p (Seeking shares) number = single p.moves (seeking_of p) (share_of shares number)
+bout_among p (Seeking shares) number = single p.moves SEEKING (share_of shares number)
 
 abbrev pub bout_of : Plan → ℕ → Bout
 bout_of p number = bout_among p p.bouts number

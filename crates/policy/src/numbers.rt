@@ -38,17 +38,10 @@ pub(crate) const RIGID_LIMIT: u64 = 3_000_000;
 pub(crate) const LOOSE_SPANS: u64 = 16;
 
 pub(crate) const LOOSE_LIMIT: u64 = 6_000_000;
-/// How copies of a chain heat that seek a feasible schedule: as long as so many cycles are left, and then.
+/// How copies of a chain heat that seek a feasible schedule.
 pub(crate) const SEEKING: Course = Course::Heats {
     from: 300,
     to: 1000,
-};
-
-pub(crate) const PATIENCE: u32 = 8;
-
-pub(crate) const SEEKING_FURTHER: Course = Course::Heats {
-    from: 300,
-    to: 3000,
 };
 /// Up to so many teams are few.
 pub(crate) const FEW_TEAMS: u8 = 12;

@@ -8,8 +8,7 @@ use crate::first_half::{FirstHalf, field_for, span};
 use crate::legs::{Course, Leg, LegEnd, MoveSet, WeightCourse};
 use crate::numbers::{
     AFTER_FEW, AFTER_MORE, COPIES, Cycles, FEW_TEAMS, HOT_SECOND_HALF, Heating, LEAST_TRIES, LOW,
-    NEAR, PATIENCE, RULED, RULED_FIRST, SECOND_HALF, SEEKING, SEEKING_FURTHER, TRY_STEPS, UNIT,
-    WIDE,
+    NEAR, RULED, RULED_FIRST, SECOND_HALF, SEEKING, TRY_STEPS, UNIT, WIDE,
 };
 use crate::waves::{Aim, Facts, Source, Wave};
 
@@ -69,7 +68,7 @@ pub(crate) struct Plan {
 impl Plan {
     ghost use Rattle.std.specs.Prelude.{◌≢◌, ◌+◌, ◌%◌, ◌^◌, ◌<◌, true, false};
     ghost use Rattle.policy.specs.Legs.{DoesCool, IsCourse, IsWeightCourse};
-    ghost use Rattle.policy.specs.Plan.{bout_of, cools_from, cycle_of, heat_of, heating_of, leg_after, plan_after, ruled_in, seeking_of, two_cycles, weights_of};
+    ghost use Rattle.policy.specs.Plan.{bout_of, cools_from, cycle_of, heat_of, heating_of, leg_after, plan_after, ruled_in, two_cycles, weights_of};
     ghost use Rattle.policy.specs.Policy.{IsNewPlan, IsNextWave, second_half_for};
     ghost use Rattle.policy.specs.Waves.{IsNextPlan, IsSettled, ReachesFurther, WantsTries, cycles_in, moves_from};
 
@@ -281,7 +280,7 @@ impl Plan {
             Bouts::FirstHalf(first_half) => first_half.bout(number),
             Bouts::Tries(shares) => Bout::single(self.moves, self.heats(), shares.of(number)),
             Bouts::Copies(shares) => Bout::single(self.moves, self.cools(0), shares.of(number)),
-            Bouts::Seeking(shares) => Bout::single(self.moves, self.seeks(), shares.of(number)),
+            Bouts::Seeking(shares) => Bout::single(self.moves, SEEKING, shares.of(number)),
             Bouts::Level(shares) => self.two_cycles(shares.of(number)),
         }
     }
@@ -347,18 +346,6 @@ impl Plan {
     {
         let Heating { from, to, .. } = self.heating();
         Course::Heats { from, to }
-    }
-
-    /// How copies heat that seek a feasible schedule.
-    fn seeks(&self) -> Course
-        ensures value { result ≡ seeking_of self.now }
-        ensures course { IsCourse result }
-    {
-        if self.cycles_left >= PATIENCE {
-            SEEKING
-        } else {
-            SEEKING_FURTHER
-        }
     }
 
     /// How the tries of the present wave heat. Without tries a breach weighs as in the lowest.
