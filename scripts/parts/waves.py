@@ -99,7 +99,7 @@ def search(n, effort, goes_on=False, breaks_rules=False):
             steps = max(1, left // (16 - i))
             left -= steps
             seeks = apart and not was_feasible
-            bouts = [[(FULL, 300, 1000, share)] for share in parts(steps, 4)] if seeks else copied(FULL, most * peak // 1000, 150, steps)
+            bouts = [[(FULL, 300, 2000, share)] for share in parts(steps, 4)] if seeks else copied(FULL, most * peak // 1000, 150, steps)
             came_to = yield "Copies", 1, bouts, weights
             was_feasible = was_feasible or any(end is not None for end in came_to)
             if seeks:

@@ -33,7 +33,7 @@ ruled_in (Level shares) = RULED
 ruled_in (Copies shares) = RULED
 ruled_in (Seeking shares) = RULED
 
--- and otherwise
+-- what a breach weighs in the present wave
 abbrev pub weights_of : Plan → WeightCourse
 weights_of p = if p.apart then ruled_in p.bouts else (heating_of p.reach).weights
 

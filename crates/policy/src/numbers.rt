@@ -41,7 +41,7 @@ pub(crate) const LOOSE_LIMIT: u64 = 6_000_000;
 /// How copies of a chain heat that seek a feasible schedule.
 pub(crate) const SEEKING: Course = Course::Heats {
     from: 300,
-    to: 1000,
+    to: 2000,
 };
 /// Up to so many teams are few.
 pub(crate) const FEW_TEAMS: u8 = 12;
