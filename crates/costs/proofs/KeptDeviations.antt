@@ -135,12 +135,15 @@ rest_more rules scope walked left lowest rest g next rule d within taken at one 
 abbrev pub AreMaybeBroken : Scope → Bool → ℕ → ℕ → Type 0
 AreMaybeBroken scope known broken walked = (i : ℕ) → has walked i ≡ (has scope.rules i && (not known || has broken i))
 
+-- a rule that isn't broken has no deviation
+pub no_deviation : (g : Games) (rule : Rule) (kept : List ℕ) (i : ℕ) → slice_index kept i ≡ deviation g rule.body →
+    false ≡ not (slice_index kept i == 0) → deviation g rule.body ≡ 0
+no_deviation g rule kept i is unbroken = sym is ∙ eqb-true (slice_index kept i) 0 (not-false (slice_index kept i == 0) (sym unbroken))
+
 -- what has no deviation has no part
-pub no_part : (g : Games) (scope : Scope) (rule : Rule) (kept : List ℕ) (i : ℕ) → slice_index kept i ≡ deviation g rule.body →
-    false ≡ not (slice_index kept i == 0) → deviation_part g scope.main.teams scope.main.rounds scope.flipping rule.body ≡ 0
-no_part g scope rule kept i is unbroken =
-    let zero : slice_index kept i ≡ 0 = eqb-true (slice_index kept i) 0 (not-false (slice_index kept i == 0) (sym unbroken)) in
-    omega (arith, part_le g scope.main.teams scope.main.rounds scope.flipping rule.body, is, zero)
+pub no_part : (g : Games) (scope : Scope) (rule : Rule) → deviation g rule.body ≡ 0 →
+    deviation_part g scope.main.teams scope.main.rounds scope.flipping rule.body ≡ 0
+no_part g scope rule zero = omega (arith, part_le g scope.main.teams scope.main.rounds scope.flipping rule.body, zero)
 
 -- so what is put down of all that it can alter, if the deviations are known
 pub rests_all : (rules : List Rule) (scope : Scope) (walked left : ℕ) (g : Games) (kept next : List ℕ) (broken : ℕ) → left ≡ 0 →
@@ -160,7 +163,7 @@ rests_all rules scope walked left g kept next broken none members are rests i ru
         rests i rule at in_walked (ap (λ set. has set i) none ∙ has_empty i)
     by_test false e =
         let unbroken : false ≡ not (slice_index kept i == 0) = sym e ∙ are.broken i rule at in
-        let nothing : part ≡ 0 = no_part g scope rule kept i (are.each i rule at) unbroken in
+        let nothing : part ≡ 0 = no_part g scope rule (no_deviation g rule kept i (are.each i rule at) unbroken) in
         let zero : (slice_index kept i == 0) ≡ true = not-false (slice_index kept i == 0) (sym unbroken) in
         ap (λ b. (if b then 0 else slice_index next i) + part) zero ∙
         omega (arith, nothing, are.each i rule at, eqb-true (slice_index kept i) 0 zero)

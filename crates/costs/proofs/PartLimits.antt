@@ -14,7 +14,8 @@ use Rattle.tours.specs.Phased.{is_unphased, unphased, unphased_part}
 use Rattle.fixtures.specs.declared.exchanges.Exchange.{Exchange}
 use Rattle.robinx.proofs.ForCallers.{part_le}
 use Rattle.costs.specs.Costs.{hard_penalty, soft_penalty, penalty_of, sum_over_rules, near_cost, cost_of}
-use Rattle.costs.specs.within.CostParts.{games_cost, halves_part, rule_part, rules_part, penalties_part, IsPredicted}
+use Rattle.league.specs.Sums.{sum_where}
+use Rattle.costs.specs.within.CostParts.{alterable_penalties, games_cost, halves_part, rule_part, rules_part, penalties_part, IsPredicted}
 use Rattle.costs.specs.declared.cost.Cost.{Cost}
 use Rattle.costs.specs.declared.scope.Scope.{Scope}
 
@@ -28,23 +29,23 @@ unphased_part_le g teams =
     sum_below_le_each g.teams _ _
     (λ j under. sum_below_le_each j _ _ (λ i lower. both_le (teams i || teams j) (is_unphased g i j)))
 
-where_le : (counted : Bool) (part whole : ℕ) → part ≤ whole → (if counted then part else 0) ≤ (if counted then whole else 0)
+pub where_le : (counted : Bool) (part whole : ℕ) → part ≤ whole → (if counted then part else 0) ≤ (if counted then whole else 0)
 where_le true part whole le = le
 where_le false part whole le = omega arith
 
 -- a rule of any weight adds no more for a lesser deviation
-abbrev Grows : (Weight → ℕ → ℕ) → Type 0
+abbrev pub Grows : (Weight → ℕ → ℕ) → Type 0
 Grows penalty = (weight : Weight) (m n : ℕ) → m ≤ n → penalty weight m ≤ penalty weight n
 
-hard_grows : Grows hard_penalty
+pub hard_grows : Grows hard_penalty
 hard_grows Hard m n le = le
 hard_grows (Soft weight) m n le = omega arith
 
-soft_grows : Grows soft_penalty
+pub soft_grows : Grows soft_penalty
 soft_grows Hard m n le = omega arith
 soft_grows (Soft weight) m n le = mul-le-mul_left weight le
 
-rule_part_le : (penalty : Weight → ℕ → ℕ) → Grows penalty → (main : TouchedCells) (sides : ℕ) (g : Games) (rule : Option Rule) →
+pub rule_part_le : (penalty : Weight → ℕ → ℕ) → Grows penalty → (main : TouchedCells) (sides : ℕ) (g : Games) (rule : Option Rule) →
     rule_part penalty main sides g rule ≤ penalty_of penalty g rule
 rule_part_le penalty grows main sides g None = omega arith
 rule_part_le penalty grows main sides g (Some rule) = grows rule.weight _ _ (part_le g main.teams main.rounds sides rule.body)
@@ -54,6 +55,16 @@ rules_part_le : (penalty : Weight → ℕ → ℕ) → Grows penalty → (rules 
 unfolding rules_part sum_over_rules
 rules_part_le penalty grows rules main sides g =
     sum_below_le_each (length rules) _ _ (λ i under. rule_part_le penalty grows main sides g (slice_get rules i))
+
+alterable_le : (penalty : Weight → ℕ → ℕ) (l : LeagueData) (scope : Scope) (g : Games) →
+    sum_where (length l.rules) (has scope.rules) (λ i. penalty_of penalty g (slice_get l.rules i)) ≤ sum_over_rules penalty l.rules g
+unfolding sum_over_rules
+alterable_le penalty l scope g =
+    sum_below_le_each (length l.rules) _ _ (λ i under. if_le (has scope.rules i) (penalty_of penalty g (slice_get l.rules i)))
+  where
+    if_le : (counted : Bool) (n : ℕ) → (if counted then n else 0) ≤ n
+    if_le true n = le_refl n
+    if_le false n = omega arith
 
 hard_le : (l : LeagueData) (scope : Scope) (g : Games) →
     halves_part l scope g + (penalties_part l scope g).hard + games_cost l g ≤ (cost_of l g).hard
@@ -71,6 +82,23 @@ of_rules_le l scope g = rules_part_le hard_penalty hard_grows l.rules scope.main
 soft_le : (l : LeagueData) (scope : Scope) (g : Games) → (penalties_part l scope g).soft + near_cost l g ≤ (cost_of l g).soft
 unfolding cost_of
 soft_le l scope g = omega (arith, rules_part_le soft_penalty soft_grows l.rules scope.main scope.flipping g)
+
+all_hard_le : (l : LeagueData) (scope : Scope) (g : Games) →
+    halves_part l scope g + (alterable_penalties l scope g).hard + games_cost l g ≤ (cost_of l g).hard
+unfolding cost_of
+all_hard_le l scope g = omega (
+  arith,
+  alterable_le hard_penalty l scope g,
+  where_le l.phased _ _ (unphased_part_le g (has scope.main.teams)),
+)
+
+all_of_rules_le : (l : LeagueData) (scope : Scope) (g : Games) → (alterable_penalties l scope g).hard ≤ (cost_of l g).of_rules
+unfolding cost_of
+all_of_rules_le l scope g = alterable_le hard_penalty l scope g
+
+all_soft_le : (l : LeagueData) (scope : Scope) (g : Games) → (alterable_penalties l scope g).soft + near_cost l g ≤ (cost_of l g).soft
+unfolding cost_of
+all_soft_le l scope g = omega (arith, alterable_le soft_penalty l scope g)
 
 -- A deviation of 0 adds nothing.
 
@@ -92,3 +120,14 @@ module _ (l : LeagueData) (scope : Scope) (g : Games) (exchange : Exchange) (pre
 
   pub soft_fits : (penalties_part l scope g).soft ≤ predicted.soft
   soft_fits = omega (arith, is.soft, soft_le l scope g)
+
+  -- nor without all that the rules add which the exchange can alter
+
+  pub all_hard_fit : halves_part l scope g + (alterable_penalties l scope g).hard ≤ predicted.hard
+  all_hard_fit = omega (arith, is.hard, all_hard_le l scope g)
+
+  pub all_of_rules_fit : (alterable_penalties l scope g).hard ≤ predicted.of_rules
+  all_of_rules_fit = omega (arith, is.of_rules, all_of_rules_le l scope g)
+
+  pub all_soft_fit : (alterable_penalties l scope g).soft ≤ predicted.soft
+  all_soft_fit = omega (arith, is.soft, all_soft_le l scope g)

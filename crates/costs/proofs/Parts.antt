@@ -33,6 +33,7 @@ use Rattle.costs.specs.Costs.{near_cost, score_limit, AreWeights, IsCostWithin}
 use Rattle.costs.specs.within.CostParts.{games_cost, halves_part, rule_part, rules_part, penalties_part, with_halves, with_penalties, IsRest, IsScope, IsPredicted}
 use Rattle.costs.specs.declared.scope.Scope.{Scope}
 use Rattle.costs.specs.declared.cost.Cost.{Cost}
+use Rattle.costs.specs.declared.penalties.Penalties.{Penalties}
 use Rattle.costs.specs.declared.weights.Weights.{Weights}
 use Rattle.costs.proofs.Scores.{cost_travel, exchanged-teams, score_below, score_fits}
 
@@ -148,22 +149,18 @@ pub same_cost : (one other : Cost) → one.travel ≡ other.travel → one.hard 
     one.soft ≡ other.soft → one ≡ other
 same_cost one other travel hard of_rules soft = rw (travel, hard, of_rules, soft) refl
 
--- a predicted cost without the penalties that the exchange can change, counted before it
-pub record IsWithout (l : LeagueData) (g : Games) (scope : Scope) (predicted rest : Cost) : Type 0 where
-  pub travel_is : rest.travel ≡ predicted.travel
-  pub hard : rest.hard + halves_part l scope g + (penalties_part l scope g).hard ≡ predicted.hard
-  pub of_rules : rest.of_rules + (penalties_part l scope g).hard ≡ predicted.of_rules
-  pub soft : rest.soft + (penalties_part l scope g).soft ≡ predicted.soft
-
-pub rest_after : (l : LeagueData) (g : Games) (scope : Scope) (predicted rest : Cost) → IsLeague l → teams l ≡ g.teams →
-    IsScope g scope → IsPredicted l g scope.attempt.exchange.now predicted → IsWithout l g scope predicted rest →
-    IsRest l scope (exchanged_by g scope.attempt.exchange.now) rest
-rest_after l g scope predicted rest is same are known without =
+-- a predicted cost without the penalties that the exchange can change, counted before it, is that rest after it
+pub rest_after : (l : LeagueData) (g : Games) (scope : Scope) (predicted rest : Cost) (halves : ℕ) (parts : Penalties) → IsLeague l →
+    teams l ≡ g.teams → IsScope g scope → IsPredicted l g scope.attempt.exchange.now predicted →
+    with_penalties (with_halves rest halves) parts ≡ predicted → halves ≡ halves_part l scope g → parts.hard ≡ (penalties_part l scope g).hard →
+    parts.soft ≡ (penalties_part l scope g).soft → IsRest l scope (exchanged_by g scope.attempt.exchange.now) rest
+rest_after l g scope predicted rest halves parts is same are known without halves_are hard soft =
     let balance : Balances l g (exchanged_by g scope.attempt.exchange.now) scope = penalties_balance l g scope is same are in
-    same_cost _ _ (without.travel_is ∙ known.travel_is ∙ sym (cost_travel l (exchanged_by g scope.attempt.exchange.now)))
-    (omega (arith, without.hard, known.hard, balance.hard))
-    (omega (arith, without.of_rules, known.of_rules, balance.of_rules))
-    (omega (arith, without.soft, known.soft, balance.soft))
+    same_cost _ _
+    (ap (λ (cost : Cost). cost.travel) without ∙ known.travel_is ∙ sym (cost_travel l (exchanged_by g scope.attempt.exchange.now)))
+    (omega (arith, ap (λ (cost : Cost). cost.hard) without, halves_are, hard, known.hard, balance.hard))
+    (omega (arith, ap (λ (cost : Cost). cost.of_rules) without, hard, known.of_rules, balance.of_rules))
+    (omega (arith, ap (λ (cost : Cost). cost.soft) without, soft, known.soft, balance.soft))
 
 -- a predicted cost where no rule and no half is counted
 
@@ -241,6 +238,24 @@ pub least_scores : (l : LeagueData) (weights : Weights) (g : Games) (streaks : �
     score_by weights (record { travel = travel l g; hard = streaks; of_rules = 0; soft = 0 }) ≤ score_by weights (cost_of l g)
 least_scores l weights g streaks some =
     score_grows weights _ (cost_of l g) (omega (arith, cost_travel l g)) (omega (arith, some, games_le l g)) (omega arith) (omega arith)
+
+-- nor what is predicted without at least those penalties
+pub least_after : (l : LeagueData) (g : Games) (scope : Scope) (weights : Weights) (predicted least : Cost) (halves : ℕ) (all : Penalties) →
+    IsLeague l → teams l ≡ g.teams → IsScope g scope → IsPredicted l g scope.attempt.exchange.now predicted →
+    with_penalties (with_halves least halves) all ≡ predicted → halves ≡ halves_part l scope g → (penalties_part l scope g).hard ≤ all.hard →
+    (penalties_part l scope g).soft ≤ all.soft → score_by weights least ≤ score_by weights (cost_of l (exchanged_by g scope.attempt.exchange.now))
+least_after l g scope weights predicted least halves all is same are known without halves_are hard soft =
+    let balance : Balances l g (exchanged_by g scope.attempt.exchange.now) scope = penalties_balance l g scope is same are in
+    score_grows weights least (cost_of l (exchanged_by g scope.attempt.exchange.now))
+    (omega (
+      arith,
+      ap (λ (cost : Cost). cost.travel) without,
+      known.travel_is,
+      cost_travel l (exchanged_by g scope.attempt.exchange.now),
+    ))
+    (omega (arith, ap (λ (cost : Cost). cost.hard) without, halves_are, known.hard, balance.hard, hard))
+    (omega (arith, ap (λ (cost : Cost). cost.of_rules) without, known.of_rules, balance.of_rules, hard))
+    (omega (arith, ap (λ (cost : Cost). cost.soft) without, known.soft, balance.soft, soft))
 
 pub rest_scores : (l : LeagueData) (weights : Weights) (scope : Scope) (after : Games) (rest : Cost) → IsRest l scope after rest →
     score_by weights rest ≤ score_by weights (cost_of l after)

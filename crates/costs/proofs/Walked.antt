@@ -1,23 +1,29 @@
 -- A walk over the rules that an exchange can alter counts what all rules do.
-use Rattle.std.proofs.Common.{◌≡◌, ℕ, ◌||◌, ◌&&◌, ◌==◌, not, Bool, true, false, if◌then◌else◌, length, slice_get, Option, Some, None, refl, sym, ◌∙◌, ap}
+use Rattle.std.proofs.Common.{◌≡◌, ℕ, ◌||◌, ◌&&◌, ◌==◌, not, Bool, true, false, if◌then◌else◌, length, slice_get, Option, Some, None, refl, sym, ◌∙◌, ap, ◌≤◌, arith}
 use Rattle.std.proofs.lemmas.Bool.{and_parts}
 use Rattle.league.specs.League.{LeagueData, teams, IsLeague}
 use Rattle.league.specs.Sets.{has}
 use Rattle.league.specs.Sums.{sum_where}
 use Rattle.league.specs.declared.rule.Rule.{Rule}
 use Rattle.league.specs.declared.rule.Weight.{Weight}
-use Rattle.league.proofs.ForCallers.{sum_below_same, has_both}
+use Rattle.league.proofs.ForCallers.{sum_below_le_each, sum_below_same, has_both}
 use Rattle.fixtures.specs.Games.{Games, IsDoubleRoundRobin}
 use Rattle.fixtures.specs.declared.exchanges.Exchange.{Exchange}
 use Rattle.fixtures.specs.declared.exchanges.Exchange.TheVariants as edit
-use Rattle.fixtures.specs.Exchanges.{main_cells, flipping_team}
+use Rattle.fixtures.specs.Exchanges.{exchanged_by, main_cells, flipping_team}
 use Rattle.rule_index.proofs.ForCallers.{nothing_else_altered}
-use Rattle.costs.specs.within.CostParts.{rule_part, rules_part, KnowsRules}
+use Rattle.costs.specs.within.CostParts.{alterable_penalties, halves_part, rule_part, rules_part, with_halves, with_penalties, IsPredicted, IsScope, KnowsRules}
 use Rattle.costs.specs.within.KeptDeviations.{AreKeptDeviations}
 use Rattle.costs.specs.declared.kept_deviations.KeptDeviations.{KeptDeviations}
+use Rattle.costs.specs.declared.cost.Cost.{Cost}
+use Rattle.costs.specs.declared.penalties.Penalties.{Penalties}
 use Rattle.costs.specs.declared.scope.Scope.{Scope}
-use Rattle.costs.proofs.KeptDeviations.{AreMaybeBroken, no_part}
-use Rattle.costs.proofs.Parts.{rule_for}
+use Rattle.costs.specs.declared.weights.Weights.{Weights}
+use Rattle.robinx.specs.Deviations.{deviation}
+use Rattle.costs.specs.Costs.{cost_of, hard_penalty, penalty_of, score_by, soft_penalty}
+use Rattle.costs.proofs.KeptDeviations.{AreMaybeBroken, no_deviation, no_part}
+use Rattle.costs.proofs.PartLimits.{hard_grows, hard_nothing, rule_part_le, soft_grows, soft_nothing, where_le, Grows}
+use Rattle.costs.proofs.Parts.{least_after, rule_for}
 
 -- only main teams flip
 pub flipping_main : (g : Games) (exchange : Exchange) (t : ℕ) → flipping_team g exchange t ≡ true →
@@ -50,24 +56,59 @@ module _ (penalty : Weight → ℕ → ℕ) (nothing : (weight : Weight) → pen
       by_test i true e = refl
       by_test i false e = sym (part_nothing i (slice_get l.rules i) refl e)
 
--- rules that are known not to be broken add nothing
-pub unbroken_nothing : (penalty : Weight → ℕ → ℕ) → ((weight : Weight) → penalty weight 0 ≡ 0) → (l : LeagueData) (scope : Scope) (g : Games)
-    (held : KeptDeviations) (set : ℕ) → AreKeptDeviations l.rules g held → AreMaybeBroken scope held.is_known held.broken set →
-    sum_where (length l.rules) (has set) (λ i. rule_part penalty scope.main scope.flipping g (slice_get l.rules i)) ≡
-    sum_where (length l.rules) (has scope.rules) (λ i. rule_part penalty scope.main scope.flipping g (slice_get l.rules i))
-unbroken_nothing penalty nothing l scope g held set are members =
-    sum_below_same (length l.rules) _ _
-    (λ i below. ap (λ (b : Bool). if b then part i (slice_get l.rules i) else 0) (members i) ∙ at i (slice_get l.rules i) refl (has scope.rules i) held.is_known (has held.broken i) refl refl)
-  where
-    part : ℕ → Option Rule → ℕ
-    part i rule = rule_part penalty scope.main scope.flipping g rule
+  pub walked_le : Grows penalty → rules_part penalty l.rules scope.main scope.flipping g ≤
+      sum_where (length l.rules) (has scope.rules) (λ i. penalty_of penalty g (slice_get l.rules i))
+  walked_le grows =
+      omega (
+        arith,
+        walked,
+        sum_below_le_each (length l.rules)
+            (λ i. if has scope.rules i then rule_part penalty scope.main scope.flipping g (slice_get l.rules i) else 0)
+            (λ i. if has scope.rules i then penalty_of penalty g (slice_get l.rules i) else 0)
+            (λ i below. where_le (has scope.rules i) _ _ (rule_part_le penalty grows scope.main scope.flipping g (slice_get l.rules i))),
+      )
 
+-- a rule whose deviation is 0 adds nothing
+abbrev IsOfBroken : Games → (Option Rule → ℕ) → Type 0
+IsOfBroken g added = (rule : Option Rule) → ((r : Rule) → rule ≡ Some r → deviation g r.body ≡ 0) → added rule ≡ 0
+
+pub part_of_broken : (penalty : Weight → ℕ → ℕ) → ((weight : Weight) → penalty weight 0 ≡ 0) → (scope : Scope) (g : Games) →
+    IsOfBroken g (rule_part penalty scope.main scope.flipping g)
+part_of_broken penalty nothing scope g None zero = refl
+part_of_broken penalty nothing scope g (Some rule) zero =
+    ap (penalty rule.weight) (no_part g scope rule (zero rule refl)) ∙ nothing rule.weight
+
+pub all_of_broken : (penalty : Weight → ℕ → ℕ) → ((weight : Weight) → penalty weight 0 ≡ 0) → (g : Games) → IsOfBroken g (penalty_of penalty g)
+all_of_broken penalty nothing g None zero = refl
+all_of_broken penalty nothing g (Some rule) zero = ap (penalty rule.weight) (zero rule refl) ∙ nothing rule.weight
+
+-- rules that are known not to be broken add nothing
+pub unbroken_nothing : (added : Option Rule → ℕ) (l : LeagueData) (scope : Scope) (g : Games) (held : KeptDeviations) (set : ℕ) →
+    IsOfBroken g added → AreKeptDeviations l.rules g held → AreMaybeBroken scope held.is_known held.broken set →
+    sum_where (length l.rules) (has set) (λ i. added (slice_get l.rules i)) ≡
+    sum_where (length l.rules) (has scope.rules) (λ i. added (slice_get l.rules i))
+unbroken_nothing added l scope g held set nothing are members =
+    sum_below_same (length l.rules) _ _
+    (λ i below. ap (λ (b : Bool). if b then added (slice_get l.rules i) else 0) (members i) ∙
+    at i (slice_get l.rules i) refl (has scope.rules i) held.is_known (has held.broken i) refl refl)
+  where
     at : (i : ℕ) (rule : Option Rule) → slice_get l.rules i ≡ rule → (a known broken : Bool) → held.is_known ≡ known → has held.broken i ≡ broken →
-        (if a && (not known || broken) then part i rule else 0) ≡ (if a then part i rule else 0)
+        (if a && (not known || broken) then added rule else 0) ≡ (if a then added rule else 0)
     at i rule at_i false known broken k b = refl
     at i rule at_i true false broken k b = refl
     at i rule at_i true true true k b = refl
-    at i None at_i true true false k b = refl
-    at i (Some rule) at_i true true false k b =
+    at i rule at_i true true false k b =
         let held_are = are.deviations k in
-        sym (ap (penalty rule.weight) (no_part g scope rule held.kept i (held_are.each i rule at_i) (sym b ∙ held_are.broken i rule at_i)) ∙ nothing rule.weight)
+        sym (nothing rule
+        (λ r is. no_deviation g r held.kept i (held_are.each i r (at_i ∙ is)) (sym b ∙ held_are.broken i r (at_i ∙ is))))
+
+-- with no rule broken that the exchange can alter the schedule after it would score no more
+pub least_scores : (l : LeagueData) (g : Games) (scope : Scope) (weights : Weights) (predicted least : Cost) (halves : ℕ) (all : Penalties) →
+    IsLeague l → teams l ≡ g.teams → IsDoubleRoundRobin g → KnowsRules l scope → IsScope g scope →
+    IsPredicted l g scope.attempt.exchange.now predicted → with_penalties (with_halves least halves) all ≡ predicted →
+    halves ≡ halves_part l scope g → all ≡ alterable_penalties l scope g →
+    score_by weights least ≤ score_by weights (cost_of l (exchanged_by g scope.attempt.exchange.now))
+least_scores l g scope weights predicted least halves all is same robin knows are known without halves_are all_is =
+    least_after l g scope weights predicted least halves all is same are known without halves_are
+    (omega (arith, walked_le hard_penalty hard_nothing l scope g is same robin knows hard_grows, ap (λ (p : Penalties). p.hard) all_is))
+    (omega (arith, walked_le soft_penalty soft_nothing l scope g is same robin knows soft_grows, ap (λ (p : Penalties). p.soft) all_is))

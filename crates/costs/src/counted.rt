@@ -1,53 +1,42 @@
 //! The part of a cost that has to be counted before an exchange and after it: of the rules, and in a phased league of
 //! the pairs with both games in one half.
 
-ghost use Rattle.std.specs.Prelude.{◌≡◌, ◌*◌, ◌<◌, ◌≤◌, true, false, length, IfSome, MatchOption};
+ghost use Rattle.std.specs.Prelude.{◌≡◌, ◌+◌, ◌*◌, ◌<◌, ◌≤◌, true, false, length, IfSome, MatchOption};
 ghost use Rattle.league.specs.League.{teams};
 ghost use Rattle.league.specs.Limits.{max_rules, max_teams};
 ghost use Rattle.league.specs.Sets.{has};
 ghost use Rattle.tours.specs.Phased.{unphased_part};
 ghost use Rattle.fixtures.specs.Exchanges.{exchanged_by};
 ghost use Rattle.costs.specs.Costs.{cost_of, score_by, where_phased, AreWeights, IsCostWithin};
-ghost use Rattle.costs.specs.within.CostParts.{IsPredicted, IsRest, IsScope, KnowsRules};
+ghost use Rattle.costs.specs.within.CostParts.{with_halves, with_penalties, IsPredicted, IsRest, IsScope, KnowsRules};
 ghost use Rattle.costs.specs.within.KeptDeviations.{AreKeptDeviations, AreRests, IsKeptOf};
 
 use crate::cost::Cost;
 use crate::kept_deviations::KeptDeviations;
-use crate::rule_costs::{parts_of_rules, with_rules};
+use crate::penalties::Penalties;
+use crate::rule_costs::{known_penalties, parts_of_rules, with_rules};
 use crate::scope::Scope;
 use fixtures::{Schedule, Touched};
 use league::League;
 use tours::unphased_part;
 
-/// A predicted cost without the penalties that the exchange can change.
-fn rest_of(
-    schedule: &Schedule,
-    league: &League,
-    deviations: &mut KeptDeviations,
-    scope: &Scope<'_>,
-    predicted: Cost,
-) -> Cost
-    requires same_size { teams league.now ≡ schedule.now.teams }
-    requires scope { IsScope schedule.now scope.now }
-    requires rules { KnowsRules league.now scope.now }
-    requires deviations { AreKeptDeviations league.now.rules schedule.now deviations.old }
-    requires predicted { IsPredicted league.now schedule.now scope.now.attempt.exchange.now predicted }
-    ensures rest { IsRest league.now scope.now (exchanged_by schedule.now scope.now.attempt.exchange.now) result }
-    ensures deviations { AreKeptDeviations league.now.rules schedule.now deviations.new }
-    ensures same { IsKeptOf deviations.new deviations.old }
-    ensures rests { deviations.new.is_known ≡ true → AreRests league.now.rules scope.now (has scope.now.rules) schedule.now deviations.new.kept deviations.new.next }
+/// A predicted cost without so many pairs in one half, and without these penalties of rules.
+fn without(predicted: Cost, halves: u64, rules: Penalties) -> Cost
+    requires hard { halves + rules.hard ≤ predicted.hard }
+    requires of_rules { rules.hard ≤ predicted.of_rules }
+    requires soft { rules.soft ≤ predicted.soft }
+    ensures { with_penalties (with_halves result halves) rules ≡ predicted }
 {
-    prove_eq!(league.teams(), schedule.teams());
-    let rules = parts_of_rules(schedule, league, deviations, scope);
     Cost {
         travel: predicted.travel,
-        hard: predicted.hard - phases_part(schedule, league, scope.main) - rules.hard,
+        hard: predicted.hard - halves - rules.hard,
         of_rules: predicted.of_rules - rules.hard,
         soft: predicted.soft - rules.soft,
     }
 }
 
-/// Gives that rest, unless it takes the score after the exchange over the greatest that the attempt allows. For that nothing is made.
+/// Gives a predicted cost without the penalties that the exchange can change, unless it takes the score after the exchange over the greatest
+/// that the attempt allows. For that nothing is made, and nothing is counted if the score is over it though no such rule were broken.
 pub(crate) fn rest_within(
     schedule: &Schedule,
     league: &League,
@@ -66,12 +55,21 @@ pub(crate) fn rest_within(
         (λ rest. IsRest league.now scope.now (exchanged_by schedule.now scope.now.attempt.exchange.now) rest) }
     ensures deviations { AreKeptDeviations league.now.rules schedule.now deviations.new }
     ensures same { IsKeptOf deviations.new deviations.old }
-    ensures rests { deviations.new.is_known ≡ true →
-        AreRests league.now.rules scope.now (has scope.now.rules) schedule.now deviations.new.kept deviations.new.next }
+    ensures rests { IfSome result (λ _. deviations.new.is_known ≡ true →
+        AreRests league.now.rules scope.now (has scope.now.rules) schedule.now deviations.new.kept deviations.new.next) }
 {
     prove_eq!(league.teams(), schedule.teams());
-    let rest = rest_of(schedule, league, deviations, scope, predicted);
-    if rest.score_by(scope.attempt.weights) > scope.attempt.limit {
+    let (weights, limit) = (scope.attempt.weights, scope.attempt.limit);
+    let halves = phases_part(schedule, league, scope.main);
+    if deviations.is_known {
+        let known = known_penalties(schedule, league, deviations, scope);
+        if without(predicted, halves, known).score_by(weights) > limit {
+            return None;
+        }
+    }
+    let parts = parts_of_rules(schedule, league, deviations, scope);
+    let rest = without(predicted, halves, parts);
+    if rest.score_by(weights) > limit {
         return None;
     }
     Some(rest)

@@ -5,7 +5,7 @@ ghost use Rattle.league.specs.League.{teams};
 ghost use Rattle.league.specs.Limits.{deviation_limit, max_rules, max_weight};
 ghost use Rattle.league.specs.Sets.{has, IsBelow};
 ghost use Rattle.costs.specs.Costs.{cost_of, hard_penalty, score_by, soft_penalty, sum_over_rules, AreWeights};
-ghost use Rattle.costs.specs.within.CostParts.{parts_of, rules_part, with_penalties, IsWithin, KnowsRules};
+ghost use Rattle.costs.specs.within.CostParts.{alterable_penalties, parts_of, rules_part, with_penalties, IsWithin, KnowsRules};
 ghost use Rattle.costs.specs.within.KeptDeviations.{AreKeptDeviations, AreMadeWhole, AreRests, IsKeptOf};
 
 use crate::cost::Cost;
@@ -29,6 +29,30 @@ pub(crate) fn costs_of_rules(schedule: &Schedule, league: &League) -> Penalties
     for i in 0..league.rule_count() {
         let rule = league.rule(i);
         let added = Penalties::of_rule(rule.weight, deviation(schedule, rule));
+        costs.hard += added.hard;
+        costs.soft += added.soft;
+    }
+    costs
+}
+
+/// All that the rules which the exchange of the scope can alter add to a cost before it, as their deviations are known.
+pub(crate) fn known_penalties(
+    schedule: &Schedule,
+    league: &League,
+    deviations: &KeptDeviations,
+    scope: &Scope<'_>,
+) -> Penalties
+    requires same_size { teams league.now ≡ schedule.now.teams }
+    requires rules { KnowsRules league.now scope.now }
+    requires deviations { AreKeptDeviations league.now.rules schedule.now deviations.now }
+    requires known { deviations.now.is_known ≡ true }
+    ensures { result ≡ alterable_penalties league.now scope.now schedule.now }
+{
+    prove_eq!(league.teams(), schedule.teams());
+    let mut costs = Penalties { hard: 0, soft: 0 };
+    for i in deviations.maybe_broken(scope.rules) {
+        let rule = league.rule(i);
+        let added = Penalties::of_rule(rule.weight, u64::from(deviations.kept[i]));
         costs.hard += added.hard;
         costs.soft += added.soft;
     }

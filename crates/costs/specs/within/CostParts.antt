@@ -18,7 +18,7 @@ use Rattle.tours.specs.Phased.{unphased_part}
 use Rattle.robinx.specs.Laws.{SidesAreMain}
 use Rattle.robinx.specs.Parts.{deviation_part}
 use Rattle.rule_index.specs.Alterable.{is_alterable_at}
-use Rattle.costs.specs.Costs.{cost_of, hard_penalty, near_cost, soft_penalty, unless_free, where_phased}
+use Rattle.costs.specs.Costs.{cost_of, hard_penalty, near_cost, penalty_of, soft_penalty, unless_free, where_phased}
 use Rattle.costs.specs.declared.cost.Cost.{Cost}
 use Rattle.costs.specs.declared.penalties.Penalties.{Penalties}
 use Rattle.costs.specs.declared.scope.Scope.{Scope}
@@ -69,6 +69,13 @@ abbrev pub penalties_part : LeagueData → Scope → Games → Penalties
 penalties_part l scope g = record {
   hard = rules_part hard_penalty l.rules scope.main scope.flipping g;
   soft = rules_part soft_penalty l.rules scope.main scope.flipping g;
+}
+
+-- of all that those rules add which the exchange can alter
+abbrev pub alterable_penalties : LeagueData → Scope → Games → Penalties
+alterable_penalties l scope g = record {
+  hard = sum_where (length l.rules) (has scope.rules) (λ i. penalty_of hard_penalty g (slice_get l.rules i));
+  soft = sum_where (length l.rules) (has scope.rules) (λ i. penalty_of soft_penalty g (slice_get l.rules i));
 }
 
 -- a cost with pairs in one half that it lacks

@@ -1,14 +1,114 @@
-use Rattle.std.proofs.Common.{arith}
+use Rattle.std.proofs.Common.{ap, arith}
 use Rattle.fixtures.specs.Exchanges.{exchanged_by}
-use Rattle.costs.proofs.Parts.{rest_scores, score_fits_after}
+use Rattle.costs.proofs.PartLimits.{all_hard_fit, all_of_rules_fit, all_soft_fit, hard_fits, of_rules_fits, soft_fits}
+use Rattle.costs.proofs.Parts.{rest_after, rest_scores, score_fits_after}
+use Rattle.costs.proofs.Walked.{least_scores}
 use Rattle.costs.proofs.counted.rest_within.Goals as goal
+
+-- the cost with no rule broken that the exchange can alter scores no more than the schedule after it
+
+pub without-requires-clause-hard : goal.without-requires-clause-hard
+without-requires-clause-hard c =
+    omega (
+      arith,
+      all_hard_fit c.args.league.now c.args.scope.now c.args.schedule.now _ _ c.requires.predicted,
+      c.phases_part-halves.ensures.value,
+      ap (λ p. p.hard) c.known_penalties-known.ensures,
+    )
+
+pub without-requires-clause-of_rules : goal.without-requires-clause-of_rules
+without-requires-clause-of_rules c =
+    omega (
+      arith,
+      all_of_rules_fit c.args.league.now c.args.scope.now c.args.schedule.now _ _ c.requires.predicted,
+      ap (λ p. p.hard) c.known_penalties-known.ensures,
+    )
+
+pub without-requires-clause-soft : goal.without-requires-clause-soft
+without-requires-clause-soft c =
+    omega (
+      arith,
+      all_soft_fit c.args.league.now c.args.scope.now c.args.schedule.now _ _ c.requires.predicted,
+      ap (λ p. p.soft) c.known_penalties-known.ensures,
+    )
 
 pub score_by-requires : goal.score_by-requires
 score_by-requires c =
     omega (
       arith,
-      rest_scores c.args.league.now c.args.scope.now.attempt.weights c.args.scope.now (exchanged_by c.args.schedule.now c.args.scope.now.attempt.exchange.now)
-          c.rest_of-rest.result c.rest_of-rest.ensures.rest,
+      least_scores c.args.league.now c.args.schedule.now c.args.scope.now c.args.scope.now.attempt.weights c.args.predicted c.without.result _ _
+          c.teams.ensures.limits c.requires.same_size c.teams-2.ensures.round_robin c.requires.rules c.requires.scope c.requires.predicted
+          c.without.ensures c.phases_part-halves.ensures.value c.known_penalties-known.ensures,
       score_fits_after c.args.league.now c.args.schedule.now c.args.scope.now.attempt.exchange.now c.args.scope.now.attempt.weights
           c.teams.ensures.limits c.requires.same_size c.requires.weights,
     )
+
+pub returns-then-score_by-limit-clause-rest : goal.returns-then-score_by-limit-clause-rest
+returns-then-score_by-limit-clause-rest c = 
+    omega (
+      arith,
+      least_scores c.args.league.now c.args.schedule.now c.args.scope.now c.args.scope.now.attempt.weights c.args.predicted c.without.result _ _
+          c.teams.ensures.limits c.requires.same_size c.teams-2.ensures.round_robin c.requires.rules c.requires.scope c.requires.predicted
+          c.without.ensures c.phases_part-halves.ensures.value c.known_penalties-known.ensures,
+      c.score_by.ensures,
+      c.if-score_by-limit.true,
+    )
+
+-- nor does it without what the exchange can alter
+
+pub without-rest-requires-clause-hard : goal.without-rest-requires-clause-hard
+without-rest-requires-clause-hard c =
+    omega (
+      arith,
+      hard_fits c.args.league.now c.args.scope.now c.args.schedule.now _ _ c.requires.predicted,
+      c.phases_part-halves.ensures.value,
+      c.parts_of_rules-parts.ensures.hard,
+    )
+
+pub without-rest-requires-clause-of_rules : goal.without-rest-requires-clause-of_rules
+without-rest-requires-clause-of_rules c =
+    omega (
+      arith,
+      of_rules_fits c.args.league.now c.args.scope.now c.args.schedule.now _ _ c.requires.predicted,
+      c.parts_of_rules-parts.ensures.hard,
+    )
+
+pub without-rest-requires-clause-soft : goal.without-rest-requires-clause-soft
+without-rest-requires-clause-soft c =
+    omega (
+      arith,
+      soft_fits c.args.league.now c.args.scope.now c.args.schedule.now _ _ c.requires.predicted,
+      c.parts_of_rules-parts.ensures.soft,
+    )
+
+pub score_by-requires-2 : goal.score_by-requires-2
+score_by-requires-2 c =
+    omega (
+      arith,
+      rest_scores c.args.league.now c.args.scope.now.attempt.weights c.args.scope.now
+          (exchanged_by c.args.schedule.now c.args.scope.now.attempt.exchange.now) c.without-rest.result
+          (rest_after c.args.league.now c.args.schedule.now c.args.scope.now c.args.predicted c.without-rest.result _ _ c.teams.ensures.limits
+          c.requires.same_size c.requires.scope c.requires.predicted c.without-rest.ensures c.phases_part-halves.ensures.value
+          c.parts_of_rules-parts.ensures.hard c.parts_of_rules-parts.ensures.soft),
+      score_fits_after c.args.league.now c.args.schedule.now c.args.scope.now.attempt.exchange.now c.args.scope.now.attempt.weights
+          c.teams.ensures.limits c.requires.same_size c.requires.weights,
+    )
+
+pub returns-then-score_by-limit-2-clause-rest : goal.returns-then-score_by-limit-2-clause-rest
+returns-then-score_by-limit-2-clause-rest c =
+    omega (
+      arith,
+      rest_scores c.args.league.now c.args.scope.now.attempt.weights c.args.scope.now
+          (exchanged_by c.args.schedule.now c.args.scope.now.attempt.exchange.now) c.without-rest.result
+          (rest_after c.args.league.now c.args.schedule.now c.args.scope.now c.args.predicted c.without-rest.result _ _ c.teams.ensures.limits
+          c.requires.same_size c.requires.scope c.requires.predicted c.without-rest.ensures c.phases_part-halves.ensures.value
+          c.parts_of_rules-parts.ensures.hard c.parts_of_rules-parts.ensures.soft),
+      c.score_by-2.ensures,
+      c.if-score_by-limit-2.true,
+    )
+
+pub returns-clause-rest : goal.returns-clause-rest
+returns-clause-rest c =
+    rest_after c.args.league.now c.args.schedule.now c.args.scope.now c.args.predicted c.without-rest.result _ _ c.teams.ensures.limits
+    c.requires.same_size c.requires.scope c.requires.predicted c.without-rest.ensures c.phases_part-halves.ensures.value
+    c.parts_of_rules-parts.ensures.hard c.parts_of_rules-parts.ensures.soft

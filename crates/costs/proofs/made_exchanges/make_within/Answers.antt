@@ -59,7 +59,7 @@ whole_within-cost-requires-clause-rests c = λ known.
     subst (λ (g : Games). AreRests c.args.league.now.rules c.of-scope.result (has c.of-scope.result.rules) g c.rest_within.new.deviations.kept c.rest_within.new.deviations.next)
     (schedule_is c)
     (rests_after c.args.league.now c.args.schedule.now c.of-scope.result c.teams.ensures.limits c.requires.same_size c.of-scope.ensures.scope
-    _ _ (c.rest_within.ensures.rests known))
+    _ _ (c.in_ok-rest.ensures.rests known))
 
 pub returns-clause-evaluator : goal.returns-clause-evaluator
 returns-clause-evaluator c =

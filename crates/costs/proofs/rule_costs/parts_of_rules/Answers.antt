@@ -8,7 +8,7 @@ use Rattle.costs.specs.Costs.{hard_penalty, soft_penalty}
 use Rattle.costs.specs.within.CostParts.{rule_part}
 use Rattle.costs.proofs.KeptDeviations.{rest_more, rests_all}
 use Rattle.costs.proofs.PartLimits.{hard_nothing, soft_nothing}
-use Rattle.costs.proofs.Walked.{unbroken_nothing, walked}
+use Rattle.costs.proofs.Walked.{part_of_broken, unbroken_nothing, walked}
 use Rattle.costs.proofs.rule_costs.parts_of_rules.Goals as goal
 
 pub loop-i-init : goal.loop-i-init
@@ -87,7 +87,8 @@ pub returns-clause-hard : goal.returns-clause-hard
 returns-clause-hard c =
     sum_without_all _ _ _ _ _ (has c.maybe_broken-rules.result) _ c.loop-i.invariant.hard c.in-None.ensures.steps.0
     (λ k below. ap (λ set. has set k) c.into_iter-i-iterator.ensures.into_iter_gives) ∙
-    unbroken_nothing hard_penalty hard_nothing c.args.league.now c.args.scope.now c.args.schedule.now c.args.deviations.now _
+    unbroken_nothing (rule_part hard_penalty c.args.scope.now.main c.args.scope.now.flipping c.args.schedule.now) c.args.league.now c.args.scope.now
+    c.args.schedule.now c.args.deviations.now _ (part_of_broken hard_penalty hard_nothing c.args.scope.now c.args.schedule.now)
     c.requires.deviations c.maybe_broken-rules.ensures.members ∙
     walked hard_penalty hard_nothing c.args.league.now c.args.scope.now c.args.schedule.now c.teams.ensures.limits c.requires.same_size
     c.teams-2.ensures.round_robin c.requires.rules
@@ -96,7 +97,8 @@ pub returns-clause-soft : goal.returns-clause-soft
 returns-clause-soft c =
     sum_without_all _ _ _ _ _ (has c.maybe_broken-rules.result) _ c.loop-i.invariant.soft c.in-None.ensures.steps.0
     (λ k below. ap (λ set. has set k) c.into_iter-i-iterator.ensures.into_iter_gives) ∙
-    unbroken_nothing soft_penalty soft_nothing c.args.league.now c.args.scope.now c.args.schedule.now c.args.deviations.now _
+    unbroken_nothing (rule_part soft_penalty c.args.scope.now.main c.args.scope.now.flipping c.args.schedule.now) c.args.league.now c.args.scope.now
+    c.args.schedule.now c.args.deviations.now _ (part_of_broken soft_penalty soft_nothing c.args.scope.now c.args.schedule.now)
     c.requires.deviations c.maybe_broken-rules.ensures.members ∙
     walked soft_penalty soft_nothing c.args.league.now c.args.scope.now c.args.schedule.now c.teams.ensures.limits c.requires.same_size
     c.teams-2.ensures.round_robin c.requires.rules
