@@ -104,7 +104,8 @@ pub(crate) fn whole_within(
         ..rest
     };
     let first = with_rules(schedule, league, deviations, scope, scope.first, begun)?;
-    let cost = with_rules(schedule, league, deviations, scope, scope.last, first)?;
+    let next = with_rules(schedule, league, deviations, scope, scope.next, first)?;
+    let cost = with_rules(schedule, league, deviations, scope, scope.last, next)?;
     if cost.score_by(scope.attempt.weights) > scope.attempt.limit {
         return None;
     }

@@ -29,6 +29,7 @@ impl Model for Evaluator {
     ghost view = { λ e. record {
       index = e.index;
       first = e.order.first;
+      next = e.order.next;
       last = e.order.last;
       deviations = if_known e.deviations.is_known e.deviations.kept e.deviations.broken;
     } };

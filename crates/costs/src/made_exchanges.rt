@@ -48,7 +48,7 @@ pub fn make_at_cost(
 
 /// Makes the exchange of an attempt as `make_at_cost` does if the score after by the attempt's weights is at most the greatest allowed, and
 /// gives the cost after. Otherwise the schedule is left as it was, and what costs little to count is counted first: travel, streaks and repeats,
-/// for which nothing is made, then the rules, and last those that take longest. What is counted is kept in the evaluator. Takes no memory.
+/// for which nothing is made, then the rules, the hard ones first and last those that take longest. What is counted is kept in the evaluator. Takes no memory.
 pub fn make_within(
     schedule: &mut Schedule,
     league: &League,

@@ -21,8 +21,9 @@ pub(crate) struct Scope<'a> {
     pub(crate) flipping: TeamSet,
     /// The rules whose deviation can change.
     pub(crate) rules: RuleSet,
-    /// Those of them that are counted first, and those that are counted last.
+    /// Those of them that are counted first, next and last.
     pub(crate) first: RuleSet,
+    pub(crate) next: RuleSet,
     pub(crate) last: RuleSet,
 }
 
@@ -42,6 +43,7 @@ impl<'a> Scope<'a> {
             flipping: attempt.exchange.flipping(schedule),
             rules,
             first: rules.intersection(evaluator.order.first),
+            next: rules.intersection(evaluator.order.next),
             last: rules.intersection(evaluator.order.last),
         }
     }

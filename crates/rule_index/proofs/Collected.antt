@@ -19,25 +19,21 @@ pub passes_past : (rules : List Rule) (test : RuleBody → Bool) (i : ℕ) → l
 unfolding passes_at
 passes_past rules test i past = ap (λ o. option_map_or (λ (rule : Rule). test rule.body) o false) (slice_get_past rules i past)
 
-passes_here : (rules : List Rule) (test : RuleBody → Bool) (i : ℕ) (rule : Rule) → slice_get rules i ≡ Some rule →
-    passes_at rules test i ≡ test rule.body
+pub passes_here : (rules : List Rule) (test : RuleBody → Bool) (i : ℕ) (rule : Rule) → slice_get rules i ≡ Some rule →
+    test rule.body ≡ passes_at rules test i
 unfolding passes_at
-passes_here rules test i rule is = ap (λ o. option_map_or (λ (r : Rule). test r.body) o false) is
+passes_here rules test i rule is = sym (ap (λ o. option_map_or (λ (r : Rule). test r.body) o false) is)
 
--- of the first rules those that pass
-pub record IsCollected (rules : List Rule) (test : RuleBody → Bool) (count set : ℕ) : Type 0 where
-  pub members : (k : ℕ) → has set k ≡ (nat_lt k count && passes_at rules test k)
+-- of the first indices those that pass a test
+pub record IsCollected (test : ℕ → Bool) (count set : ℕ) : Type 0 where
+  pub members : (k : ℕ) → has set k ≡ (nat_lt k count && test k)
 
-pub collected_none : (rules : List Rule) (test : RuleBody → Bool) (set : ℕ) → ((k : ℕ) → has set k ≡ false) →
-    IsCollected rules test 0 set
-collected_none rules test set empty = record {
-  members = λ k. empty k ∙ sym (ap (λ b. b && passes_at rules test k) (le-ltb k 0 (omega arith)));
-}
+pub collected_none : (test : ℕ → Bool) (set : ℕ) → ((k : ℕ) → has set k ≡ false) → IsCollected test 0 set
+collected_none test set empty = record { members = λ k. empty k ∙ sym (ap (λ b. b && test k) (le-ltb k 0 (omega arith))); }
 
-pub collected_more : (rules : List Rule) (test : RuleBody → Bool) (i set more : ℕ) (rule : Rule) (belongs : Bool) →
-    IsCollected rules test i set → slice_get rules i ≡ Some rule → belongs ≡ test rule.body →
-    ((k : ℕ) → has more k ≡ ((k == i && belongs) || has set k)) → IsCollected rules test (i + 1) more
-collected_more rules test i set more rule belongs so_far is tested added = record {
+pub collected_more : (test : ℕ → Bool) (i set more : ℕ) (belongs : Bool) → IsCollected test i set → belongs ≡ test i →
+    ((k : ℕ) → has more k ≡ ((k == i && belongs) || has set k)) → IsCollected test (i + 1) more
+collected_more test i set more belongs so_far tested added = record {
   members = λ k. added k ∙ ap (λ b. (k == i && belongs) || b) (so_far.members k) ∙ at k;
 }
   where
@@ -45,18 +41,14 @@ collected_more rules test i set more rule belongs so_far is tested added = recor
     or_none true c = refl
     or_none false c = refl
 
-    at : (k : ℕ) → ((k == i && belongs) || (nat_lt k i && passes_at rules test k)) ≡ (nat_lt k (i + 1) && passes_at rules test k)
+    at : (k : ℕ) → ((k == i && belongs) || (nat_lt k i && test k)) ≡ (nat_lt k (i + 1) && test k)
     at k = elim (cases_eq k i) [
       | inl here ↦
-          let passes : belongs ≡ passes_at rules test k =
-          tested ∙ sym (passes_here rules test i rule is) ∙ ap (λ j. passes_at rules test j) (sym here) in
-          ap (λ b. (b && belongs) || (nat_lt k i && passes_at rules test k)) (eq-eqb k i here) ∙
-          ap (λ b. (true && belongs) || (b && passes_at rules test k)) (le-ltb k i (omega arith)) ∙
-          or_none belongs (passes_at rules test k) ∙ ap (λ b. true && b) passes ∙
-          ap (λ b. b && passes_at rules test k) (sym (lt-ltb k (i + 1) (omega arith)))
+          ap (λ b. (b && belongs) || (nat_lt k i && test k)) (eq-eqb k i here) ∙
+          ap (λ b. (true && belongs) || (b && test k)) (le-ltb k i (omega arith)) ∙ or_none belongs (test k) ∙
+          ap (λ b. true && b) (tested ∙ ap test (sym here)) ∙ ap (λ b. b && test k) (sym (lt-ltb k (i + 1) (omega arith)))
       | inr other ↦
-          ap (λ b. (b && belongs) || (nat_lt k i && passes_at rules test k)) (ne_eqb k i other) ∙
-          ap (λ b. b && passes_at rules test k) (one_more k other)
+          ap (λ b. (b && belongs) || (nat_lt k i && test k)) (ne_eqb k i other) ∙ ap (λ b. b && test k) (one_more k other)
     ]
       where
         one_more : (k : ℕ) → (k ≡ i → ⊥) → nat_lt k i ≡ nat_lt k (i + 1)
@@ -65,12 +57,28 @@ collected_more rules test i set more rule belongs so_far is tested added = recor
           | inr from ↦ le-ltb k i from ∙ sym (le-ltb k (i + 1) (omega arith))
         ]
 
-pub collected_all : (rules : List Rule) (test : RuleBody → Bool) (count set : ℕ) → IsCollected rules test count set →
-    count ≡ length rules → (k : ℕ) → has set k ≡ passes_at rules test k
-collected_all rules test count set all whole k = all.members k ∙ elim (cases_lt k count) [
-  | inl inside ↦ ap (λ b. b && passes_at rules test k) (lt-ltb k count inside)
-  | inr past ↦
-      ap (λ b. b && passes_at rules test k) (le-ltb k count past) ∙ sym (passes_past rules test k (omega arith))
+-- the set of one more, or without it
+module _ (test : ℕ → Bool) (i set : ℕ) (so_far : IsCollected test i set) where
+  pub put_in : (more : ℕ) → true ≡ test i → ((k : ℕ) → has more k ≡ (k == i || has set k)) → IsCollected test (i + 1) more
+  put_in more passes members =
+      collected_more test i set more true so_far passes (λ k. members k ∙ ap (λ b. b || has set k) (is_it (k == i)))
+    where
+      is_it : (b : Bool) → b ≡ (b && true)
+      is_it true = refl
+      is_it false = refl
+
+  pub left_out : false ≡ test i → IsCollected test (i + 1) set
+  left_out fails = collected_more test i set set false so_far fails (λ k. ap (λ b. b || has set k) (is_not (k == i)))
+    where
+      is_not : (b : Bool) → false ≡ (b && false)
+      is_not true = refl
+      is_not false = refl
+
+pub collected_all : (test : ℕ → Bool) (count set : ℕ) → IsCollected test count set → ((k : ℕ) → count ≤ k → test k ≡ false) → (k : ℕ) →
+    has set k ≡ test k
+collected_all test count set all none_past k = all.members k ∙ elim (cases_lt k count) [
+  | inl inside ↦ ap (λ b. b && test k) (lt-ltb k count inside)
+  | inr past ↦ ap (λ b. b && test k) (le-ltb k count past) ∙ sym (none_past k past)
 ]
 
 -- a set that has no number from m on is below m

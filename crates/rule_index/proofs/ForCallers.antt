@@ -1,5 +1,5 @@
 -- What the crates above cite: that a change alters nothing of the deviation from the other rules, and sets that a loop over rules makes.
-pub use Rattle.rule_index.proofs.Collected.{IsCollected, collected_none, collected_more, collected_all}
+pub use Rattle.rule_index.proofs.Collected.{IsCollected, collected_none, collected_all, left_out, put_in}
 use Rattle.std.proofs.Common.{◌≡◌, ℕ, ◌&&◌, not, false, List, Some, slice_get, sym, ◌∙◌, ap, inl, inr}
 use Rattle.std.specs.Option.{option_map_or}
 use Rattle.std.proofs.lemmas.Bool.{and_cases, and_left, cond-false, not-false}

@@ -29,15 +29,17 @@ pub record IsScope (g : Games) (scope : Scope) : Type 0 where
   pub main : scope.main ≡ main_cells scope.attempt.exchange.now
   pub flipping : (t : ℕ) → has scope.flipping t ≡ flipping_team g scope.attempt.exchange.now t
 
--- what the scope says of the league's rules: those that the exchange can alter, of which some are counted first and the others last
+-- what the scope says of the league's rules: those that the exchange can alter, each of which is counted first, next or last
 pub record KnowsRules (l : LeagueData) (scope : Scope) : Type 0 where
   pub sides : SidesAreMain scope.main.teams scope.flipping
   pub below : IsBelow (length l.rules) scope.rules
   pub rules : (i : ℕ) → has scope.rules i ≡ is_alterable_at l.rules scope.main.teams scope.main.rounds i
   pub first_below : IsBelow (length l.rules) scope.first
+  pub next_below : IsBelow (length l.rules) scope.next
   pub last_below : IsBelow (length l.rules) scope.last
-  pub both : (i : ℕ) → has scope.rules i ≡ (has scope.first i || has scope.last i)
-  pub apart : (i : ℕ) → has scope.first i ≡ true → has scope.last i ≡ false
+  pub each : (i : ℕ) → has scope.rules i ≡ (has scope.first i || (has scope.next i || has scope.last i))
+  pub first_apart : (i : ℕ) → has scope.first i ≡ true → (has scope.next i || has scope.last i) ≡ false
+  pub next_apart : (i : ℕ) → has scope.next i ≡ true → has scope.last i ≡ false
 
 -- the hard costs that no rule asks for, but for pairs in one half: streaks, and repeats unless they are free
 abbrev pub games_cost : LeagueData → Games → ℕ

@@ -1,12 +1,13 @@
+use Rattle.rule_index.specs.Alterable.{passes_at}
 use Rattle.std.proofs.Common.{◌≡◌, ◌∙◌, ap, arith}
 use Rattle.league.specs.Sets.{has, with_number}
 use Rattle.robinx.specs.Touches.{looks_at_round}
 use Rattle.rule_index.specs.Index.{looks_in_round}
-use Rattle.rule_index.proofs.Collected.{collected_none, collected_more, collected_all}
+use Rattle.rule_index.proofs.Collected.{collected_none, collected_more, collected_all, passes_here, passes_past}
 use Rattle.rule_index.proofs.rows.round_row.Goals as goal
 
 pub loop-i-init : goal.loop-i-init
-loop-i-init c = collected_none c.args.league.now.rules (looks_in_round c.args.round) _ c.empty-found.ensures.members
+loop-i-init c = collected_none (passes_at c.args.league.now.rules (looks_in_round c.args.round)) _ c.empty-found.ensures.members
 
 tested : (c : goal.After-with_if-found) → c.looks_at_round.result ≡ looks_in_round c.args.round c.rule-rule.result.now.body
 unfolding looks_in_round
@@ -17,11 +18,13 @@ tested c =
 
 pub loop-i-preserved : goal.loop-i-preserved
 loop-i-preserved c =
-    collected_more c.args.league.now.rules (looks_in_round c.args.round) c.loop-i.i c.loop-i.found c.with_if-found.result
-    c.rule-rule.result.now c.looks_at_round.result c.loop-i.invariant c.rule-rule.ensures.value (tested c) c.with_if-found.ensures
+    collected_more _ _ _ _ _ c.loop-i.invariant
+    (tested c ∙ passes_here c.args.league.now.rules (looks_in_round c.args.round) c.loop-i.i c.rule-rule.result.now c.rule-rule.ensures.value)
+    c.with_if-found.ensures
 
 pub returns : goal.returns
 returns c = record {
-  members = collected_all c.args.league.now.rules (looks_in_round c.args.round) c.loop-i.i c.loop-i.found c.loop-i.invariant
-      (omega (arith, c.rule_count-i-end.ensures.value));
+  members = collected_all _ _ _ c.loop-i.invariant
+      (λ k beyond. passes_past c.args.league.now.rules (looks_in_round c.args.round) k
+      (omega (arith, c.rule_count-i-end.ensures.value, beyond)));
 }
