@@ -28,7 +28,7 @@ unfolding is_at
 none_past rules test k past = ap (λ o. option_map_or test o false) (slice_get_past rules k past)
 
 -- what one of some rules is that are counted first, next or last
-record IsInOne (all first next last : Bool) : Type 0 where
+pub record IsInOne (all first next last : Bool) : Type 0 where
   pub each : all ≡ (first || (next || last))
   pub first_apart : first ≡ true → (next || last) ≡ false
   pub next_apart : next ≡ true → last ≡ false

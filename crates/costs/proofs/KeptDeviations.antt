@@ -1,9 +1,9 @@
 -- What is kept of the rules' deviations, from one schedule to the next.
-use Rattle.std.proofs.Common.{◌≡◌, ◌≢◌, ℕ, ◌+◌, ◌<◌, ◌&&◌, ◌||◌, ◌==◌, nat_lt, not, Bool, true, false, if◌then◌else◌, List, length, get_or, Option, Some, None, slice_get, slice_set}
+use Rattle.std.proofs.Common.{◌≡◌, ◌≢◌, ℕ, ◌+◌, ◌<◌, ◌&&◌, ◌||◌, ◌==◌, not, Bool, true, false, if◌then◌else◌, List, length, get_or, Option, Some, None, slice_get, slice_set}
 use Rattle.std.proofs.Common.{IfSome, true≢false, refl, sym, ◌∙◌, ap, ap₂, subst, inl, inr, arith}
 use Rattle.std.specs.Option.{is_none, is_some}
 use Rattle.std.specs.Prelude.{slice_index}
-use Rattle.std.proofs.lemmas.Bool.{cases_eq, cases_lt, eq-eqb, eqb-true, le-ltb, lt-ltb, ne_eqb, not-false, not-true}
+use Rattle.std.proofs.lemmas.Bool.{cases_eq, cases_lt, eqb-true, not-false, not-true}
 use Rattle.std.proofs.lemmas.Grind.{get_or-set_at}
 use Rattle.std.proofs.lemmas.List.{get_or-set_other}
 use Rattle.std.proofs.lemmas.Option.{get_or_from_slice_get, slice_get_past}
@@ -70,35 +70,9 @@ abbrev pub RestsWithout : List Rule → Scope → ℕ → ℕ → Games → List
 RestsWithout rules scope walked left g next = (k : ℕ) (rule : Rule) → slice_get rules k ≡ Some rule → has walked k ≡ true → has left k ≡ false →
     slice_index next k + deviation_part g scope.main.teams scope.main.rounds scope.flipping rule.body ≡ deviation g rule.body
 
--- a loop over the rules has found those of the first whose deviation isn't 0
-abbrev pub AreBrokenBelow : ℕ → List ℕ → ℕ → Type 0
-AreBrokenBelow i deviations broken = (k : ℕ) → has broken k ≡ (nat_lt k i && not (slice_index deviations k == 0))
-
-one_more_below : (k i : ℕ) → k ≢ i → nat_lt k i ≡ nat_lt k (i + 1)
-one_more_below k i other = elim (cases_lt k i) [
-  | inl below ↦ lt-ltb k i below ∙ sym (lt-ltb k (i + 1) (omega (arith, below)))
-  | inr from ↦ le-ltb k i from ∙ sym (le-ltb k (i + 1) (omega (arith, from, other)))
-]
-
-pub one_more_broken : (i : ℕ) (deviations : List ℕ) (broken new : ℕ) → AreBrokenBelow i deviations broken → (slice_index deviations i == 0) ≡ false →
-    ((k : ℕ) → has new k ≡ (k == i || has broken k)) → AreBrokenBelow (i + 1) deviations new
-one_more_broken i deviations broken new so_far some members k = elim (cases_eq k i) [
-  | inl here ↦
-      members k ∙ ap (λ b. b || has broken k) (eq-eqb k i here) ∙
-      sym (ap₂ (λ a b. a && not b) (lt-ltb k (i + 1) (omega (arith, here))) (ap (λ j. slice_index deviations j == 0) here ∙ some))
-  | inr other ↦
-      members k ∙ ap (λ b. b || has broken k) (ne_eqb k i other) ∙ so_far k ∙
-      ap (λ b. b && not (slice_index deviations k == 0)) (one_more_below k i other)
-]
-
-pub one_more_kept : (i : ℕ) (deviations : List ℕ) (broken : ℕ) → AreBrokenBelow i deviations broken → (slice_index deviations i == 0) ≡ true →
-    AreBrokenBelow (i + 1) deviations broken
-one_more_kept i deviations broken so_far zero k = elim (cases_eq k i) [
-  | inl here ↦
-      so_far k ∙ ap (λ b. b && not (slice_index deviations k == 0)) (le-ltb k i (omega (arith, here))) ∙
-      sym (ap₂ (λ a b. a && not b) (lt-ltb k (i + 1) (omega (arith, here))) (ap (λ j. slice_index deviations j == 0) here ∙ zero))
-  | inr other ↦ so_far k ∙ ap (λ b. b && not (slice_index deviations k == 0)) (one_more_below k i other)
-]
+-- whether a deviation isn't 0
+abbrev pub is_some_at : List ℕ → ℕ → Bool
+is_some_at deviations k = not (slice_index deviations k == 0)
 
 -- there are rules up to any at which there is one
 pub index_below : (rules : List Rule) (i : ℕ) (rule : Rule) → slice_get rules i ≡ Some rule → i < length rules

@@ -1,5 +1,5 @@
 -- What an exchange can change of a cost is at most all of it.
-use Rattle.std.proofs.Common.{◌≡◌, ℕ, ◌+◌, ◌≤◌, ◌&&◌, ◌||◌, Bool, true, false, if◌then◌else◌, List, length}
+use Rattle.std.proofs.Common.{◌≡◌, ℕ, ◌+◌, ◌≤◌, ◌&&◌, ◌||◌, Bool, true, false, if◌then◌else◌, length}
 use Rattle.std.proofs.Common.{slice_get, Option, Some, None, refl, le_refl, arith}
 use Rattle.std.proofs.Math.Nat.{mul-le-mul_left}
 use Rattle.league.specs.League.{LeagueData}
@@ -15,7 +15,7 @@ use Rattle.fixtures.specs.declared.exchanges.Exchange.{Exchange}
 use Rattle.robinx.proofs.ForCallers.{part_le}
 use Rattle.costs.specs.Costs.{hard_penalty, soft_penalty, penalty_of, sum_over_rules, near_cost, cost_of}
 use Rattle.league.specs.Sums.{sum_where}
-use Rattle.costs.specs.within.CostParts.{alterable_penalties, games_cost, halves_part, rule_part, rules_part, penalties_part, IsPredicted}
+use Rattle.costs.specs.within.CostParts.{alterable_penalties, games_cost, halves_part, rule_part, IsPredicted}
 use Rattle.costs.specs.declared.cost.Cost.{Cost}
 use Rattle.costs.specs.declared.scope.Scope.{Scope}
 
@@ -50,12 +50,6 @@ pub rule_part_le : (penalty : Weight → ℕ → ℕ) → Grows penalty → (mai
 rule_part_le penalty grows main sides g None = omega arith
 rule_part_le penalty grows main sides g (Some rule) = grows rule.weight _ _ (part_le g main.teams main.rounds sides rule.body)
 
-rules_part_le : (penalty : Weight → ℕ → ℕ) → Grows penalty → (rules : List Rule) (main : TouchedCells) (sides : ℕ) (g : Games) →
-    rules_part penalty rules main sides g ≤ sum_over_rules penalty rules g
-unfolding rules_part sum_over_rules
-rules_part_le penalty grows rules main sides g =
-    sum_below_le_each (length rules) _ _ (λ i under. rule_part_le penalty grows main sides g (slice_get rules i))
-
 alterable_le : (penalty : Weight → ℕ → ℕ) (l : LeagueData) (scope : Scope) (g : Games) →
     sum_where (length l.rules) (has scope.rules) (λ i. penalty_of penalty g (slice_get l.rules i)) ≤ sum_over_rules penalty l.rules g
 unfolding sum_over_rules
@@ -67,38 +61,21 @@ alterable_le penalty l scope g =
     if_le false n = omega arith
 
 hard_le : (l : LeagueData) (scope : Scope) (g : Games) →
-    halves_part l scope g + (penalties_part l scope g).hard + games_cost l g ≤ (cost_of l g).hard
-unfolding cost_of
-hard_le l scope g = omega (
-  arith,
-  rules_part_le hard_penalty hard_grows l.rules scope.main scope.flipping g,
-  where_le l.phased _ _ (unphased_part_le g (has scope.main.teams)),
-)
-
-of_rules_le : (l : LeagueData) (scope : Scope) (g : Games) → (penalties_part l scope g).hard ≤ (cost_of l g).of_rules
-unfolding cost_of
-of_rules_le l scope g = rules_part_le hard_penalty hard_grows l.rules scope.main scope.flipping g
-
-soft_le : (l : LeagueData) (scope : Scope) (g : Games) → (penalties_part l scope g).soft + near_cost l g ≤ (cost_of l g).soft
-unfolding cost_of
-soft_le l scope g = omega (arith, rules_part_le soft_penalty soft_grows l.rules scope.main scope.flipping g)
-
-all_hard_le : (l : LeagueData) (scope : Scope) (g : Games) →
     halves_part l scope g + (alterable_penalties l scope g).hard + games_cost l g ≤ (cost_of l g).hard
 unfolding cost_of
-all_hard_le l scope g = omega (
+hard_le l scope g = omega (
   arith,
   alterable_le hard_penalty l scope g,
   where_le l.phased _ _ (unphased_part_le g (has scope.main.teams)),
 )
 
-all_of_rules_le : (l : LeagueData) (scope : Scope) (g : Games) → (alterable_penalties l scope g).hard ≤ (cost_of l g).of_rules
+of_rules_le : (l : LeagueData) (scope : Scope) (g : Games) → (alterable_penalties l scope g).hard ≤ (cost_of l g).of_rules
 unfolding cost_of
-all_of_rules_le l scope g = alterable_le hard_penalty l scope g
+of_rules_le l scope g = alterable_le hard_penalty l scope g
 
-all_soft_le : (l : LeagueData) (scope : Scope) (g : Games) → (alterable_penalties l scope g).soft + near_cost l g ≤ (cost_of l g).soft
+soft_le : (l : LeagueData) (scope : Scope) (g : Games) → (alterable_penalties l scope g).soft + near_cost l g ≤ (cost_of l g).soft
 unfolding cost_of
-all_soft_le l scope g = omega (arith, alterable_le soft_penalty l scope g)
+soft_le l scope g = omega (arith, alterable_le soft_penalty l scope g)
 
 -- A deviation of 0 adds nothing.
 
@@ -110,24 +87,13 @@ pub soft_nothing : (weight : Weight) → soft_penalty weight 0 ≡ 0
 soft_nothing Hard = refl
 soft_nothing (Soft weight) = omega arith
 
--- what is left of a predicted cost without penalties
+-- a predicted cost has all that those rules add which the exchange can alter
 module _ (l : LeagueData) (scope : Scope) (g : Games) (exchange : Exchange) (predicted : Cost) (is : IsPredicted l g exchange predicted) where
-  pub hard_fits : halves_part l scope g + (penalties_part l scope g).hard ≤ predicted.hard
+  pub hard_fits : halves_part l scope g + (alterable_penalties l scope g).hard ≤ predicted.hard
   hard_fits = omega (arith, is.hard, hard_le l scope g)
 
-  pub of_rules_fits : (penalties_part l scope g).hard ≤ predicted.of_rules
+  pub of_rules_fits : (alterable_penalties l scope g).hard ≤ predicted.of_rules
   of_rules_fits = omega (arith, is.of_rules, of_rules_le l scope g)
 
-  pub soft_fits : (penalties_part l scope g).soft ≤ predicted.soft
+  pub soft_fits : (alterable_penalties l scope g).soft ≤ predicted.soft
   soft_fits = omega (arith, is.soft, soft_le l scope g)
-
-  -- nor without all that the rules add which the exchange can alter
-
-  pub all_hard_fit : halves_part l scope g + (alterable_penalties l scope g).hard ≤ predicted.hard
-  all_hard_fit = omega (arith, is.hard, all_hard_le l scope g)
-
-  pub all_of_rules_fit : (alterable_penalties l scope g).hard ≤ predicted.of_rules
-  all_of_rules_fit = omega (arith, is.of_rules, all_of_rules_le l scope g)
-
-  pub all_soft_fit : (alterable_penalties l scope g).soft ≤ predicted.soft
-  all_soft_fit = omega (arith, is.soft, all_soft_le l scope g)

@@ -1,5 +1,5 @@
 -- A cost with what an exchange can alter of some of the rules costs no more than with all of them.
-use Rattle.std.proofs.Common.{◌≡◌, ℕ, ◌+◌, ◌^◌, ◌<◌, ◌≤◌, Bool, true, false, true≢false, if◌then◌else◌, length, slice_get, Some, refl, sym, ap, ◌∙◌, arith}
+use Rattle.std.proofs.Common.{◌≡◌, ◌||◌, ℕ, ◌+◌, ◌^◌, ◌<◌, ◌≤◌, Bool, true, false, true≢false, if◌then◌else◌, length, slice_get, Some, refl, sym, ap, ◌∙◌, arith}
 use Rattle.league.specs.League.{LeagueData, teams, IsLeague}
 use Rattle.league.specs.Sets.{has, IsBelow}
 use Rattle.league.specs.within.Sets.{IsWithoutLowest}
@@ -90,27 +90,38 @@ all_counted l scope g set before cost left none is =
     (omega (arith, is.of_rules, gone (λ i. rule_part hard_penalty scope.main scope.flipping g (slice_get l.rules i))))
     (omega (arith, is.soft, gone (λ i. rule_part soft_penalty scope.main scope.flipping g (slice_get l.rules i))))
 
--- a cost that with the rules that are counted first and those that are counted last is the schedule's
+-- a cost that with the rules that are counted first, next and last is the schedule's
 pub record IsBegun (l : LeagueData) (scope : Scope) (g : Games) (cost : Cost) : Type 0 where
   pub travel : cost.travel ≡ (cost_of l g).travel
-  pub hard : cost.hard + (parts_of l scope scope.first g).hard + (parts_of l scope scope.last g).hard ≡ (cost_of l g).hard
-  pub of_rules : cost.of_rules + (parts_of l scope scope.first g).hard + (parts_of l scope scope.last g).hard ≡ (cost_of l g).of_rules
-  pub soft : cost.soft + (parts_of l scope scope.first g).soft + (parts_of l scope scope.last g).soft ≡ (cost_of l g).soft
+  pub hard : cost.hard + (parts_of l scope scope.first g).hard + (parts_of l scope scope.next g).hard + (parts_of l scope scope.last g).hard ≡
+      (cost_of l g).hard
+  pub of_rules : cost.of_rules + (parts_of l scope scope.first g).hard + (parts_of l scope scope.next g).hard +
+      (parts_of l scope scope.last g).hard ≡ (cost_of l g).of_rules
+  pub soft : cost.soft + (parts_of l scope scope.first g).soft + (parts_of l scope scope.next g).soft + (parts_of l scope scope.last g).soft ≡
+      (cost_of l g).soft
 
-parted : (l : LeagueData) (scope : Scope) (f : ℕ → ℕ) → KnowsRules l scope →
-    sum_where (length l.rules) (has scope.rules) f ≡
-    sum_where (length l.rules) (has scope.first) f + sum_where (length l.rules) (has scope.last) f
-parted l scope f knows =
-    sum_below_same (length l.rules) _ (λ i. (if has scope.first i then f i else 0) + (if has scope.last i then f i else 0))
-    (λ i below. at i (has scope.first i) (has scope.last i) refl refl) ∙
-    sum_below_add (length l.rules) (λ i. if has scope.first i then f i else 0) (λ i. if has scope.last i then f i else 0)
+-- the sum over a set that is two others of which none has what the other has
+parted : (n : ℕ) (f : ℕ → ℕ) (all one other : ℕ → Bool) → ((i : ℕ) → all i ≡ (one i || other i)) →
+    ((i : ℕ) → one i ≡ true → other i ≡ false) → sum_where n all f ≡ sum_where n one f + sum_where n other f
+parted n f all one other both apart =
+    sum_below_same n _ (λ i. (if one i then f i else 0) + (if other i then f i else 0)) (λ i below. at i (one i) (other i) refl refl) ∙
+    sum_below_add n (λ i. if one i then f i else 0) (λ i. if other i then f i else 0)
   where
-    at : (i : ℕ) (a b : Bool) → has scope.first i ≡ a → has scope.last i ≡ b →
-        (if has scope.rules i then f i else 0) ≡ (if has scope.first i then f i else 0) + (if has scope.last i then f i else 0)
-    at i true true in_first in_last = absurd (true≢false (sym in_last ∙ knows.apart i in_first))
-    at i true false in_first out = rw (knows.both i, in_first, out) (omega arith)
-    at i false true out in_last = rw (knows.both i, out, in_last) (omega arith)
-    at i false false out neither = rw (knows.both i, out, neither) (omega arith)
+    at : (i : ℕ) (a b : Bool) → one i ≡ a → other i ≡ b →
+        (if all i then f i else 0) ≡ (if one i then f i else 0) + (if other i then f i else 0)
+    at i true true in_one in_other = absurd (true≢false (sym in_other ∙ apart i in_one))
+    at i true false in_one out = rw (both i, in_one, out) (omega arith)
+    at i false true out in_other = rw (both i, out, in_other) (omega arith)
+    at i false false out neither = rw (both i, out, neither) (omega arith)
+
+parts : (l : LeagueData) (scope : Scope) (f : ℕ → ℕ) → KnowsRules l scope →
+    sum_where (length l.rules) (has scope.rules) f ≡
+    sum_where (length l.rules) (has scope.first) f +
+    (sum_where (length l.rules) (has scope.next) f + sum_where (length l.rules) (has scope.last) f)
+parts l scope f knows =
+    parted (length l.rules) f (has scope.rules) (has scope.first) (λ i. has scope.next i || has scope.last i) knows.each knows.first_apart ∙
+    ap (λ n. sum_where (length l.rules) (has scope.first) f + n)
+    (parted (length l.rules) f (λ i. has scope.next i || has scope.last i) (has scope.next) (has scope.last) (λ i. refl) knows.next_apart)
 
 pub begun_is : (l : LeagueData) (scope : Scope) (g : Games) (rest cost : Cost) → IsLeague l → teams l ≡ g.teams → IsDoubleRoundRobin g →
     KnowsRules l scope → IsRest l scope g rest → cost ≡ with_halves rest (halves_part l scope g) → IsBegun l scope g cost
@@ -122,15 +133,16 @@ begun_is l scope g rest cost is same robin knows whole begun = rw begun (record 
     arith,
     ap (λ (cost : Cost). cost.soft) whole,
     walked soft_penalty soft_nothing l scope g is same robin knows,
-    parted l scope (λ i. rule_part soft_penalty scope.main scope.flipping g (slice_get l.rules i)) knows,
+    parts l scope (λ i. rule_part soft_penalty scope.main scope.flipping g (slice_get l.rules i)) knows,
   );
 })
   where
-    hard : (penalties_part l scope g).hard ≡ (parts_of l scope scope.first g).hard + (parts_of l scope scope.last g).hard
+    hard : (penalties_part l scope g).hard ≡
+        (parts_of l scope scope.first g).hard + ((parts_of l scope scope.next g).hard + (parts_of l scope scope.last g).hard)
     hard = omega (
       arith,
       walked hard_penalty hard_nothing l scope g is same robin knows,
-      parted l scope (λ i. rule_part hard_penalty scope.main scope.flipping g (slice_get l.rules i)) knows,
+      parts l scope (λ i. rule_part hard_penalty scope.main scope.flipping g (slice_get l.rules i)) knows,
     )
 
 module _ (l : LeagueData) (scope : Scope) (g : Games) (begun : Cost) (is : IsBegun l scope g begun) where
@@ -143,15 +155,24 @@ module _ (l : LeagueData) (scope : Scope) (g : Games) (begun : Cost) (is : IsBeg
   }
 
   module _ (first : Cost) (counted : first ≡ with_penalties begun (parts_of l scope scope.first g)) where
-    pub last_within : IsWithin l scope scope.last g first
-    last_within = rw counted (record {
+    pub next_within : IsWithin l scope scope.next g first
+    next_within = rw counted (record {
       travel = is.travel;
       hard = omega (arith, is.hard);
       of_rules = omega (arith, is.of_rules);
       soft = omega (arith, is.soft);
     })
 
-    pub whole_is : (cost : Cost) → cost ≡ with_penalties first (parts_of l scope scope.last g) → cost ≡ cost_of l g
-    whole_is cost all =
-        all ∙
-        rw counted (same_cost _ (cost_of l g) is.travel (omega (arith, is.hard)) (omega (arith, is.of_rules)) (omega (arith, is.soft)))
+    module _ (next : Cost) (more : next ≡ with_penalties first (parts_of l scope scope.next g)) where
+      pub last_within : IsWithin l scope scope.last g next
+      last_within = rw (more, counted) (record {
+        travel = is.travel;
+        hard = omega (arith, is.hard);
+        of_rules = omega (arith, is.of_rules);
+        soft = omega (arith, is.soft);
+      })
+
+      pub whole_is : (cost : Cost) → cost ≡ with_penalties next (parts_of l scope scope.last g) → cost ≡ cost_of l g
+      whole_is cost all =
+          all ∙
+          rw (more, counted) (same_cost _ (cost_of l g) is.travel (omega (arith, is.hard)) (omega (arith, is.of_rules)) (omega (arith, is.soft)))

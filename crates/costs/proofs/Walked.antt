@@ -12,7 +12,7 @@ use Rattle.fixtures.specs.declared.exchanges.Exchange.{Exchange}
 use Rattle.fixtures.specs.declared.exchanges.Exchange.TheVariants as edit
 use Rattle.fixtures.specs.Exchanges.{exchanged_by, main_cells, flipping_team}
 use Rattle.rule_index.proofs.ForCallers.{nothing_else_altered}
-use Rattle.costs.specs.within.CostParts.{alterable_penalties, halves_part, rule_part, rules_part, with_halves, with_penalties, IsPredicted, IsScope, KnowsRules}
+use Rattle.costs.specs.within.CostParts.{alterable_penalties, halves_part, penalties_part, rule_part, rules_part, with_halves, with_penalties, IsPredicted, IsScope, KnowsRules}
 use Rattle.costs.specs.within.KeptDeviations.{AreKeptDeviations}
 use Rattle.costs.specs.declared.kept_deviations.KeptDeviations.{KeptDeviations}
 use Rattle.costs.specs.declared.cost.Cost.{Cost}
@@ -56,7 +56,7 @@ module _ (penalty : Weight → ℕ → ℕ) (nothing : (weight : Weight) → pen
       by_test i true e = refl
       by_test i false e = sym (part_nothing i (slice_get l.rules i) refl e)
 
-  pub walked_le : Grows penalty → rules_part penalty l.rules scope.main scope.flipping g ≤
+  walked_le : Grows penalty → rules_part penalty l.rules scope.main scope.flipping g ≤
       sum_where (length l.rules) (has scope.rules) (λ i. penalty_of penalty g (slice_get l.rules i))
   walked_le grows =
       omega (
@@ -102,6 +102,18 @@ unbroken_nothing added l scope g held set nothing are members =
         sym (nothing rule
         (λ r is. no_deviation g r held.kept i (held_are.each i r (at_i ∙ is)) (sym b ∙ held_are.broken i r (at_i ∙ is))))
 
+-- what an exchange can alter of the rules is at most all of those that it can alter
+pub record ArePartsWithin (l : LeagueData) (scope : Scope) (g : Games) : Type 0 where
+  pub hard : (penalties_part l scope g).hard ≤ (alterable_penalties l scope g).hard
+  pub soft : (penalties_part l scope g).soft ≤ (alterable_penalties l scope g).soft
+
+pub parts_within : (l : LeagueData) (scope : Scope) (g : Games) → IsLeague l → teams l ≡ g.teams → IsDoubleRoundRobin g → KnowsRules l scope →
+    ArePartsWithin l scope g
+parts_within l scope g is same robin knows = record {
+  hard = walked_le hard_penalty hard_nothing l scope g is same robin knows hard_grows;
+  soft = walked_le soft_penalty soft_nothing l scope g is same robin knows soft_grows;
+}
+
 -- with no rule broken that the exchange can alter the schedule after it would score no more
 pub least_scores : (l : LeagueData) (g : Games) (scope : Scope) (weights : Weights) (predicted least : Cost) (halves : ℕ) (all : Penalties) →
     IsLeague l → teams l ≡ g.teams → IsDoubleRoundRobin g → KnowsRules l scope → IsScope g scope →
@@ -110,5 +122,5 @@ pub least_scores : (l : LeagueData) (g : Games) (scope : Scope) (weights : Weigh
     score_by weights least ≤ score_by weights (cost_of l (exchanged_by g scope.attempt.exchange.now))
 least_scores l g scope weights predicted least halves all is same robin knows are known without halves_are all_is =
     least_after l g scope weights predicted least halves all is same are known without halves_are
-    (omega (arith, walked_le hard_penalty hard_nothing l scope g is same robin knows hard_grows, ap (λ (p : Penalties). p.hard) all_is))
-    (omega (arith, walked_le soft_penalty soft_nothing l scope g is same robin knows soft_grows, ap (λ (p : Penalties). p.soft) all_is))
+    (omega (arith, (parts_within l scope g is same robin knows).hard, ap (λ (p : Penalties). p.hard) all_is))
+    (omega (arith, (parts_within l scope g is same robin knows).soft, ap (λ (p : Penalties). p.soft) all_is))

@@ -29,7 +29,7 @@ pub record IsCollected (test : ℕ → Bool) (count set : ℕ) : Type 0 where
   pub members : (k : ℕ) → has set k ≡ (nat_lt k count && test k)
 
 pub collected_none : (test : ℕ → Bool) (set : ℕ) → ((k : ℕ) → has set k ≡ false) → IsCollected test 0 set
-collected_none test set empty = record { members = λ k. empty k ∙ sym (ap (λ b. b && test k) (le-ltb k 0 (omega arith))); }
+collected_none test set empty = record { members = λ k. empty k ∙ sym (ap (λ b. b && test k) (le-ltb k 0 (omega arith))) }
 
 pub collected_more : (test : ℕ → Bool) (i set more : ℕ) (belongs : Bool) → IsCollected test i set → belongs ≡ test i →
     ((k : ℕ) → has more k ≡ ((k == i && belongs) || has set k)) → IsCollected test (i + 1) more

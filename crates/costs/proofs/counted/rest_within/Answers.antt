@@ -1,8 +1,8 @@
 use Rattle.std.proofs.Common.{ap, arith}
 use Rattle.fixtures.specs.Exchanges.{exchanged_by}
-use Rattle.costs.proofs.PartLimits.{all_hard_fit, all_of_rules_fit, all_soft_fit, hard_fits, of_rules_fits, soft_fits}
+use Rattle.costs.proofs.PartLimits.{hard_fits, of_rules_fits, soft_fits}
 use Rattle.costs.proofs.Parts.{rest_after, rest_scores, score_fits_after}
-use Rattle.costs.proofs.Walked.{least_scores}
+use Rattle.costs.proofs.Walked.{least_scores, parts_within}
 use Rattle.costs.proofs.counted.rest_within.Goals as goal
 
 -- the cost with no rule broken that the exchange can alter scores no more than the schedule after it
@@ -11,7 +11,7 @@ pub without-requires-clause-hard : goal.without-requires-clause-hard
 without-requires-clause-hard c =
     omega (
       arith,
-      all_hard_fit c.args.league.now c.args.scope.now c.args.schedule.now _ _ c.requires.predicted,
+      hard_fits c.args.league.now c.args.scope.now c.args.schedule.now _ _ c.requires.predicted,
       c.phases_part-halves.ensures.value,
       ap (λ p. p.hard) c.known_penalties-known.ensures,
     )
@@ -20,7 +20,7 @@ pub without-requires-clause-of_rules : goal.without-requires-clause-of_rules
 without-requires-clause-of_rules c =
     omega (
       arith,
-      all_of_rules_fit c.args.league.now c.args.scope.now c.args.schedule.now _ _ c.requires.predicted,
+      of_rules_fits c.args.league.now c.args.scope.now c.args.schedule.now _ _ c.requires.predicted,
       ap (λ p. p.hard) c.known_penalties-known.ensures,
     )
 
@@ -28,7 +28,7 @@ pub without-requires-clause-soft : goal.without-requires-clause-soft
 without-requires-clause-soft c =
     omega (
       arith,
-      all_soft_fit c.args.league.now c.args.scope.now c.args.schedule.now _ _ c.requires.predicted,
+      soft_fits c.args.league.now c.args.scope.now c.args.schedule.now _ _ c.requires.predicted,
       ap (λ p. p.soft) c.known_penalties-known.ensures,
     )
 
@@ -44,7 +44,7 @@ score_by-requires c =
     )
 
 pub returns-then-score_by-limit-clause-rest : goal.returns-then-score_by-limit-clause-rest
-returns-then-score_by-limit-clause-rest c = 
+returns-then-score_by-limit-clause-rest c =
     omega (
       arith,
       least_scores c.args.league.now c.args.schedule.now c.args.scope.now c.args.scope.now.attempt.weights c.args.predicted c.without.result _ _
@@ -62,6 +62,8 @@ without-rest-requires-clause-hard c =
       arith,
       hard_fits c.args.league.now c.args.scope.now c.args.schedule.now _ _ c.requires.predicted,
       c.phases_part-halves.ensures.value,
+      (parts_within c.args.league.now c.args.scope.now c.args.schedule.now c.teams.ensures.limits c.requires.same_size
+          c.teams-2.ensures.round_robin c.requires.rules).hard,
       c.parts_of_rules-parts.ensures.hard,
     )
 
@@ -70,6 +72,8 @@ without-rest-requires-clause-of_rules c =
     omega (
       arith,
       of_rules_fits c.args.league.now c.args.scope.now c.args.schedule.now _ _ c.requires.predicted,
+      (parts_within c.args.league.now c.args.scope.now c.args.schedule.now c.teams.ensures.limits c.requires.same_size
+          c.teams-2.ensures.round_robin c.requires.rules).hard,
       c.parts_of_rules-parts.ensures.hard,
     )
 
@@ -78,6 +82,8 @@ without-rest-requires-clause-soft c =
     omega (
       arith,
       soft_fits c.args.league.now c.args.scope.now c.args.schedule.now _ _ c.requires.predicted,
+      (parts_within c.args.league.now c.args.scope.now c.args.schedule.now c.teams.ensures.limits c.requires.same_size
+          c.teams-2.ensures.round_robin c.requires.rules).soft,
       c.parts_of_rules-parts.ensures.soft,
     )
 

@@ -1,7 +1,7 @@
 use Rattle.std.proofs.Common.{◌≡◌, ◌||◌, Bool, true, false, refl, sym, ap, arith}
 use Rattle.league.specs.Sets.{has}
 use Rattle.costs.proofs.KeptDeviations.{rests_same}
-use Rattle.costs.proofs.Partial.{begun_is, first_within, last_within, whole_is}
+use Rattle.costs.proofs.Partial.{begun_is, first_within, last_within, next_within, whole_is}
 use Rattle.costs.proofs.Scores.{cost_small, score_fits}
 use Rattle.costs.specs.Costs.{score_by}
 use Rattle.costs.specs.within.CostParts.{with_halves}
@@ -27,19 +27,29 @@ with_rules-requires-clause-before c =
     first_within c.args.league.now c.args.scope.now c.args.schedule.now _ begun
 
 pub with_rules-requires-2-clause-below : goal.with_rules-requires-2-clause-below
-with_rules-requires-2-clause-below c = c.requires.rules.last_below
+with_rules-requires-2-clause-below c = c.requires.rules.next_below
 
 pub with_rules-requires-2-clause-before : goal.with_rules-requires-2-clause-before
 with_rules-requires-2-clause-before c =
     let begun = begun_is c.args.league.now c.args.scope.now c.args.schedule.now c.args.rest _ c.teams.ensures.limits c.requires.same_size
     c.teams-2.ensures.round_robin c.requires.rules c.requires.rest (ap (with_halves c.args.rest) c.phases_part.ensures.value) in
-    last_within c.args.league.now c.args.scope.now c.args.schedule.now _ begun _ c.in_ok-first.ensures.cost
+    next_within c.args.league.now c.args.scope.now c.args.schedule.now _ begun _ c.in_ok-first.ensures.cost
+
+pub with_rules-requires-3-clause-below : goal.with_rules-requires-3-clause-below
+with_rules-requires-3-clause-below c = c.requires.rules.last_below
+
+pub with_rules-requires-3-clause-before : goal.with_rules-requires-3-clause-before
+with_rules-requires-3-clause-before c =
+    let begun = begun_is c.args.league.now c.args.scope.now c.args.schedule.now c.args.rest _ c.teams.ensures.limits c.requires.same_size
+    c.teams-2.ensures.round_robin c.requires.rules c.requires.rest (ap (with_halves c.args.rest) c.phases_part.ensures.value) in
+    last_within c.args.league.now c.args.scope.now c.args.schedule.now _ begun _ c.in_ok-first.ensures.cost _ c.in_ok-next.ensures.cost
 
 pub score_by-requires : goal.score_by-requires
 score_by-requires c =
     let begun = begun_is c.args.league.now c.args.scope.now c.args.schedule.now c.args.rest _ c.teams.ensures.limits c.requires.same_size
     c.teams-2.ensures.round_robin c.requires.rules c.requires.rest (ap (with_halves c.args.rest) c.phases_part.ensures.value) in
-    let whole = whole_is c.args.league.now c.args.scope.now c.args.schedule.now _ begun _ c.in_ok-first.ensures.cost _ c.in_ok-cost.ensures.cost in
+    let whole = whole_is c.args.league.now c.args.scope.now c.args.schedule.now _ begun _ c.in_ok-first.ensures.cost _ c.in_ok-next.ensures.cost _
+    c.in_ok-cost.ensures.cost in
     rw whole
     (score_fits c.args.league.now c.args.schedule.now c.args.scope.now.attempt.weights c.teams.ensures.limits (sym c.requires.same_size)
     c.requires.weights)
@@ -48,14 +58,16 @@ pub returns-then-score_by-scope-clause-cost : goal.returns-then-score_by-scope-c
 returns-then-score_by-scope-clause-cost c =
     let begun = begun_is c.args.league.now c.args.scope.now c.args.schedule.now c.args.rest _ c.teams.ensures.limits c.requires.same_size
     c.teams-2.ensures.round_robin c.requires.rules c.requires.rest (ap (with_halves c.args.rest) c.phases_part.ensures.value) in
-    let whole = whole_is c.args.league.now c.args.scope.now c.args.schedule.now _ begun _ c.in_ok-first.ensures.cost _ c.in_ok-cost.ensures.cost in
+    let whole = whole_is c.args.league.now c.args.scope.now c.args.schedule.now _ begun _ c.in_ok-first.ensures.cost _ c.in_ok-next.ensures.cost _
+    c.in_ok-cost.ensures.cost in
     omega (arith, ap (score_by c.args.scope.now.attempt.weights) whole, c.score_by.ensures, c.if-score_by-scope.true)
 
 pub returns-clause-cost : goal.returns-clause-cost
 returns-clause-cost c =
     let begun = begun_is c.args.league.now c.args.scope.now c.args.schedule.now c.args.rest _ c.teams.ensures.limits c.requires.same_size
     c.teams-2.ensures.round_robin c.requires.rules c.requires.rest (ap (with_halves c.args.rest) c.phases_part.ensures.value) in (
-      whole_is c.args.league.now c.args.scope.now c.args.schedule.now _ begun _ c.in_ok-first.ensures.cost _ c.in_ok-cost.ensures.cost,
+      whole_is c.args.league.now c.args.scope.now c.args.schedule.now _ begun _ c.in_ok-first.ensures.cost _ c.in_ok-next.ensures.cost _
+          c.in_ok-cost.ensures.cost,
       omega (arith, c.score_by.ensures, c.if-score_by-scope.false),
     )
 
@@ -65,10 +77,13 @@ returns-clause-all c =
     (λ known.
     rests_same c.args.league.now.rules c.args.scope.now (has c.args.scope.now.last) _ c.args.schedule.now _ _
     (λ i. or_false (has c.args.scope.now.last i))
-    (c.in_ok-first.ensures.whole (has c.args.scope.now.last) c.requires.rules.apart
+    (c.in_ok-next.ensures.whole (has c.args.scope.now.last) c.requires.rules.next_apart
+    (λ still_known.
+    c.in_ok-first.ensures.whole (λ i. has c.args.scope.now.next i || has c.args.scope.now.last i) c.requires.rules.first_apart
     (λ was_known.
-    rests_same c.args.league.now.rules c.args.scope.now (has c.args.scope.now.rules) _ c.args.schedule.now _ _ c.requires.rules.both
+    rests_same c.args.league.now.rules c.args.scope.now (has c.args.scope.now.rules) _ c.args.schedule.now _ _ c.requires.rules.each
     (c.requires.rests was_known))
+    still_known)
     known))
   where
     or_false : (b : Bool) → b ≡ (b || false)

@@ -105,3 +105,9 @@ returns-clause-evaluator c =
                 });
           })
     ]
+
+pub rest_within-requires-clause-rules : goal.rest_within-requires-clause-rules
+rest_within-requires-clause-rules c = c.of-scope.ensures.rules c.args.league.now c.requires.evaluator.league
+
+pub whole_within-cost-requires-clause-rules : goal.whole_within-cost-requires-clause-rules
+whole_within-cost-requires-clause-rules c = c.of-scope.ensures.rules c.args.league.now c.requires.evaluator.league

@@ -56,12 +56,12 @@ pub returns : goal.returns
 returns c =
     rw (
       sum_without_all _ _ _ _ _ (has c.maybe_broken-i-items.result) _ c.loop-i.invariant.hard c.in-None.ensures.steps.0
-      (λ k below. ap (λ set. has set k) c.into_iter-i-iterator.ensures.into_iter_gives) ∙
-      unbroken_nothing (penalty_of hard_penalty c.args.schedule.now) c.args.league.now c.args.scope.now c.args.schedule.now
-      c.args.deviations.now _ (all_of_broken hard_penalty hard_nothing c.args.schedule.now) c.requires.deviations c.maybe_broken-i-items.ensures.members,
+          (λ k below. ap (λ set. has set k) c.into_iter-i-iterator.ensures.into_iter_gives) ∙
+          unbroken_nothing (penalty_of hard_penalty c.args.schedule.now) c.args.league.now c.args.scope.now c.args.schedule.now
+          c.args.deviations.now _ (all_of_broken hard_penalty hard_nothing c.args.schedule.now) c.requires.deviations c.maybe_broken-i-items.ensures.members,
       sum_without_all _ _ _ _ _ (has c.maybe_broken-i-items.result) _ c.loop-i.invariant.soft c.in-None.ensures.steps.0
-      (λ k below. ap (λ set. has set k) c.into_iter-i-iterator.ensures.into_iter_gives) ∙
-      unbroken_nothing (penalty_of soft_penalty c.args.schedule.now) c.args.league.now c.args.scope.now c.args.schedule.now
-      c.args.deviations.now _ (all_of_broken soft_penalty soft_nothing c.args.schedule.now) c.requires.deviations c.maybe_broken-i-items.ensures.members,
+          (λ k below. ap (λ set. has set k) c.into_iter-i-iterator.ensures.into_iter_gives) ∙
+          unbroken_nothing (penalty_of soft_penalty c.args.schedule.now) c.args.league.now c.args.scope.now c.args.schedule.now
+          c.args.deviations.now _ (all_of_broken soft_penalty soft_nothing c.args.schedule.now) c.requires.deviations c.maybe_broken-i-items.ensures.members,
     )
     refl
