@@ -1,5 +1,5 @@
 -- The order in which rules are counted: each is counted first, next or last, and none is counted twice.
-use Rattle.std.proofs.Common.{◌≡◌, ℕ, ◌&&◌, ◌||◌, not, Bool, true, false, List, Option, Some, None, slice_get, length, ◌≤◌, refl, sym, ◌∙◌, ap}
+use Rattle.std.proofs.Common.{◌≡◌, ℕ, ◌&&◌, not, Bool, true, false, List, Option, Some, None, slice_get, length, ◌≤◌, refl, sym, ◌∙◌, ap}
 use Rattle.std.proofs.lemmas.Bool.{false≢true}
 use Rattle.std.proofs.lemmas.Option.{slice_get_past}
 use Rattle.std.specs.Option.{option_map_or}
@@ -7,6 +7,7 @@ use Rattle.league.specs.declared.rule.Rule.{Rule}
 use Rattle.league.specs.declared.rule.RuleBody.{RuleBody}
 use Rattle.rule_index.specs.Alterable.{passes_at}
 use Rattle.costs.specs.Evaluators.{is_at, is_hard, is_slow}
+use Rattle.costs.specs.within.CostParts.{IsInOne}
 
 -- the tests of the three sets
 abbrev pub is_first : Rule → Bool
@@ -27,27 +28,21 @@ pub none_past : (rules : List Rule) (test : Rule → Bool) (k : ℕ) → length 
 unfolding is_at
 none_past rules test k past = ap (λ o. option_map_or test o false) (slice_get_past rules k past)
 
--- what one of some rules is that are counted first, next or last
-pub record IsInOne (all first next last : Bool) : Type 0 where
-  pub each : all ≡ (first || (next || last))
-  pub first_apart : first ≡ true → (next || last) ≡ false
-  pub next_apart : next ≡ true → last ≡ false
-
 pub in_one : (rules : List Rule) (test : RuleBody → Bool) (i : ℕ) → IsInOne (passes_at rules test i)
     (passes_at rules test i && is_at rules is_first i) (passes_at rules test i && is_at rules is_next i) (passes_at rules test i && is_at rules is_last i)
 unfolding passes_at is_at
 in_one rules test i = at (slice_get rules i)
   where
     each : (all slow hard : Bool) → IsInOne all (all && (not slow && hard)) (all && (not slow && not hard)) (all && slow)
-    each false slow hard = record { each = refl; first_apart = λ e. refl; next_apart = λ e. refl }
-    each true true hard = record { each = refl; first_apart = λ e. absurd (false≢true e); next_apart = λ e. absurd (false≢true e) }
-    each true false true = record { each = refl; first_apart = λ e. refl; next_apart = λ e. refl }
-    each true false false = record { each = refl; first_apart = λ e. absurd (false≢true e); next_apart = λ e. refl }
+    each false slow hard = record { one = refl; first_apart = λ e. refl; next_apart = λ e. refl }
+    each true true hard = record { one = refl; first_apart = λ e. absurd (false≢true e); next_apart = λ e. absurd (false≢true e) }
+    each true false true = record { one = refl; first_apart = λ e. refl; next_apart = λ e. refl }
+    each true false false = record { one = refl; first_apart = λ e. absurd (false≢true e); next_apart = λ e. refl }
 
     passes : (Rule → Bool) → Option Rule → Bool
     passes of o = option_map_or of o false
 
     at : (o : Option Rule) → IsInOne (passes (λ rule. test rule.body) o) (passes (λ rule. test rule.body) o && passes is_first o)
         (passes (λ rule. test rule.body) o && passes is_next o) (passes (λ rule. test rule.body) o && passes is_last o)
-    at None = record { each = refl; first_apart = λ e. refl; next_apart = λ e. refl }
+    at None = record { one = refl; first_apart = λ e. refl; next_apart = λ e. refl }
     at (Some rule) = each (test rule.body) (is_slow rule.body) (is_hard rule.weight)

@@ -119,9 +119,9 @@ parts : (l : LeagueData) (scope : Scope) (f : ℕ → ℕ) → KnowsRules l scop
     sum_where (length l.rules) (has scope.first) f +
     (sum_where (length l.rules) (has scope.next) f + sum_where (length l.rules) (has scope.last) f)
 parts l scope f knows =
-    parted (length l.rules) f (has scope.rules) (has scope.first) (λ i. has scope.next i || has scope.last i) knows.each knows.first_apart ∙
+    parted (length l.rules) f (has scope.rules) (has scope.first) (λ i. has scope.next i || has scope.last i) (λ i. (knows.each i).one) (λ i. (knows.each i).first_apart) ∙
     ap (λ n. sum_where (length l.rules) (has scope.first) f + n)
-    (parted (length l.rules) f (λ i. has scope.next i || has scope.last i) (has scope.next) (has scope.last) (λ i. refl) knows.next_apart)
+    (parted (length l.rules) f (λ i. has scope.next i || has scope.last i) (has scope.next) (has scope.last) (λ i. refl) (λ i. (knows.each i).next_apart))
 
 pub begun_is : (l : LeagueData) (scope : Scope) (g : Games) (rest cost : Cost) → IsLeague l → teams l ≡ g.teams → IsDoubleRoundRobin g →
     KnowsRules l scope → IsRest l scope g rest → cost ≡ with_halves rest (halves_part l scope g) → IsBegun l scope g cost

@@ -1,6 +1,6 @@
 -- What of the costs an exchange can change, counted on the schedule before it or after it. `main` has its main teams and
 -- their rounds.
-use Rattle.std.specs.Prelude.{◌≡◌, ℕ, ◌+◌, ◌≤◌, ◌||◌, true, false}
+use Rattle.std.specs.Prelude.{◌≡◌, ℕ, ◌+◌, ◌≤◌, ◌||◌, Bool, true, false}
 use Rattle.std.specs.Prelude.{List, length, slice_get, Option, Some, None}
 use Rattle.league.specs.League.{LeagueData}
 use Rattle.league.specs.Sets.{has, IsBelow}
@@ -29,6 +29,12 @@ pub record IsScope (g : Games) (scope : Scope) : Type 0 where
   pub main : scope.main ≡ main_cells scope.attempt.exchange.now
   pub flipping : (t : ℕ) → has scope.flipping t ≡ flipping_team g scope.attempt.exchange.now t
 
+-- one of all is counted first, next or last, and not twice
+pub record IsInOne (all first next last : Bool) : Type 0 where
+  pub one : all ≡ (first || (next || last))
+  pub first_apart : first ≡ true → (next || last) ≡ false
+  pub next_apart : next ≡ true → last ≡ false
+
 -- what the scope says of the league's rules: those that the exchange can alter, each of which is counted first, next or last
 pub record KnowsRules (l : LeagueData) (scope : Scope) : Type 0 where
   pub sides : SidesAreMain scope.main.teams scope.flipping
@@ -37,9 +43,7 @@ pub record KnowsRules (l : LeagueData) (scope : Scope) : Type 0 where
   pub first_below : IsBelow (length l.rules) scope.first
   pub next_below : IsBelow (length l.rules) scope.next
   pub last_below : IsBelow (length l.rules) scope.last
-  pub each : (i : ℕ) → has scope.rules i ≡ (has scope.first i || (has scope.next i || has scope.last i))
-  pub first_apart : (i : ℕ) → has scope.first i ≡ true → (has scope.next i || has scope.last i) ≡ false
-  pub next_apart : (i : ℕ) → has scope.next i ≡ true → has scope.last i ≡ false
+  pub each : (i : ℕ) → IsInOne (has scope.rules i) (has scope.first i) (has scope.next i) (has scope.last i)
 
 -- the hard costs that no rule asks for, but for pairs in one half: streaks, and repeats unless they are free
 abbrev pub games_cost : LeagueData → Games → ℕ

@@ -77,11 +77,11 @@ returns-clause-all c =
     (λ known.
     rests_same c.args.league.now.rules c.args.scope.now (has c.args.scope.now.last) _ c.args.schedule.now _ _
     (λ i. or_false (has c.args.scope.now.last i))
-    (c.in_ok-next.ensures.whole (has c.args.scope.now.last) c.requires.rules.next_apart
+    (c.in_ok-next.ensures.whole (has c.args.scope.now.last) (λ i. (c.requires.rules.each i).next_apart)
     (λ still_known.
-    c.in_ok-first.ensures.whole (λ i. has c.args.scope.now.next i || has c.args.scope.now.last i) c.requires.rules.first_apart
+    c.in_ok-first.ensures.whole (λ i. has c.args.scope.now.next i || has c.args.scope.now.last i) (λ i. (c.requires.rules.each i).first_apart)
     (λ was_known.
-    rests_same c.args.league.now.rules c.args.scope.now (has c.args.scope.now.rules) _ c.args.schedule.now _ _ c.requires.rules.each
+    rests_same c.args.league.now.rules c.args.scope.now (has c.args.scope.now.rules) _ c.args.schedule.now _ _ (λ i. (c.requires.rules.each i).one)
     (c.requires.rests was_known))
     still_known)
     known))

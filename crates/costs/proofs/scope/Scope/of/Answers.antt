@@ -1,4 +1,4 @@
-use Rattle.std.proofs.Common.{◌≡◌, ℕ, ◌&&◌, ◌||◌, Bool, sym, ◌∙◌, ap, ap₂, subst}
+use Rattle.std.proofs.Common.{◌≡◌, ℕ, ◌&&◌, Bool, sym, ◌∙◌, ap, ap₂, subst}
 use Rattle.league.specs.Sets.{has}
 use Rattle.league.specs.declared.rule.Rule.{Rule}
 use Rattle.fixtures.specs.TouchedCells.{TouchedCells}
@@ -31,9 +31,5 @@ returns-clause-rules c l of_these =
       first_below = c.intersection.ensures.below _ below;
       next_below = c.intersection-2.ensures.below _ below;
       last_below = c.intersection-3.ensures.below _ below;
-      each = λ i. members i ∙ (one i).each ∙
-          ap₂ (λ a b. a || b) (sym (first i)) (ap₂ (λ a b. a || b) (sym (next i)) (sym (last i)));
-      first_apart = λ i in_first.
-          ap₂ (λ a b. a || b) (next i) (last i) ∙ (one i).first_apart (sym (first i) ∙ in_first);
-      next_apart = λ i in_next. last i ∙ (one i).next_apart (sym (next i) ∙ in_next);
+      each = λ i. rw (members i, first i, next i, last i) (one i);
     }
