@@ -6,13 +6,14 @@ A wave is what it begins at, how many of its chains go on, the legs of each bout
 sends what each bout came to: None if its chain has no feasible version, for a leg that heats the highest temperature, otherwise
 anything."""
 
-RIGID, LOOSE, FULL, REPAIR, WIDE = range(1, 6)
+RIGID, LOOSE, FULL, REPAIR, WIDE, PARTIAL = range(1, 7)
 KINDS = {
     RIGID: ("homes", "teams"),
     LOOSE: ("homes", "rounds", "teams"),
     FULL: ("homes", "rounds", "teams", "part-rounds", "part-teams"),
     REPAIR: ("homes", "part-rounds", "part-teams"),
     WIDE: ("homes", "rounds", "part-rounds", "part-teams"),
+    PARTIAL: ("homes", "part-rounds", "part-rounds", "part-teams", "part-teams"),
 }
 # what a breach of a hard limit weighs at first, at least and at most, in millionths of the unit, and at least one of a hard rule, if that
 # is apart: without tries and in the lowest, in those of a repair, and in wide ones
@@ -86,10 +87,10 @@ def search(n, effort, goes_on=False, breaks_rules=False):
     if not apart and not was_feasible:
         yield from search_tries(n, left)
         return
-    levels = {1: 0, 2: 1, 3: 2, 4: 2}[field]
+    levels, moves = {1: 0, 2: 1, 3: 2, 4: 2}[field], PARTIAL if apart else FULL
     level, peaks = left // (levels + 2), 8 * ((500, 400, 600, 300) if n <= 12 or apart else (300, 250, 400, 200))
     while field > 1:
-        bouts = [[(FULL, peak, 150, steps) for peak, steps in zip(peaks, parts(share, 2))] for share in parts(level, field)]
+        bouts = [[(moves, peak, 150, steps) for peak, steps in zip(peaks, parts(share, 2))] for share in parts(level, field)]
         peaks, left, field = peaks[2:], left - level, (field + 1) // 2
         came_to = yield "Own", field, bouts, weights
         was_feasible = was_feasible or any(end is not None for end in came_to)
@@ -99,7 +100,7 @@ def search(n, effort, goes_on=False, breaks_rules=False):
             steps = max(1, left // (16 - i))
             left -= steps
             seeks = apart and not was_feasible
-            bouts = [[(FULL, 300, 2000, share)] for share in parts(steps, 4)] if seeks else copied(FULL, most * peak // 1000, 150, steps)
+            bouts = [[(moves, 300, 2000, share)] for share in parts(steps, 4)] if seeks else copied(moves, most * peak // 1000, 150, steps)
             came_to = yield "Copies", 1, bouts, weights
             was_feasible = was_feasible or any(end is not None for end in came_to)
             if seeks:

@@ -100,6 +100,7 @@ fn words_of(moves: MoveSet) -> &'static [u8]
         MoveSet::Full => b"homes,rounds,teams,part-rounds,part-teams",
         MoveSet::Repair => b"homes,part-rounds,part-teams",
         MoveSet::WideRepair => b"homes,rounds,part-rounds,part-teams",
+        MoveSet::Partial => b"homes,part-rounds,part-rounds,part-teams,part-teams",
     }
 }
 

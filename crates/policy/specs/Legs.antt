@@ -3,7 +3,7 @@ use Rattle.std.specs.Prelude.{ℕ, ◌≤◌, List, [], ◌∷◌, Option, Some,
 use Rattle.moves.specs.declared.moves.MoveKind.{MoveKind}
 use Rattle.moves.specs.declared.moves.MoveKind.TheVariants.{Homes, Rounds, Teams, PartRounds, PartTeams}
 use Rattle.policy.specs.declared.legs.MoveSet.{MoveSet}
-use Rattle.policy.specs.declared.legs.MoveSet.TheVariants.{Rigid, Loose, Full, Repair, WideRepair}
+use Rattle.policy.specs.declared.legs.MoveSet.TheVariants.{Rigid, Loose, Full, Repair, WideRepair, Partial}
 use Rattle.policy.specs.declared.legs.Course.{Course}
 use Rattle.policy.specs.declared.legs.Course.TheVariants.{Cools, Heats}
 use Rattle.policy.specs.declared.legs.Leg.{Leg}
@@ -16,6 +16,7 @@ kinds_of Loose = Homes ∷ Rounds ∷ Teams ∷ []
 kinds_of Full = Homes ∷ Rounds ∷ Teams ∷ PartRounds ∷ PartTeams ∷ []
 kinds_of Repair = Homes ∷ PartRounds ∷ PartTeams ∷ []
 kinds_of WideRepair = Homes ∷ Rounds ∷ PartRounds ∷ PartTeams ∷ []
+kinds_of Partial = Homes ∷ PartRounds ∷ PartRounds ∷ PartTeams ∷ PartTeams ∷ []
 
 -- the temperature never goes the other way
 abbrev pub IsCourse : Course → Type 0

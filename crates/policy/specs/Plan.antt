@@ -7,6 +7,8 @@ use Rattle.policy.specs.declared.legs.Course.TheVariants.{Cools, Heats}
 use Rattle.policy.specs.declared.legs.Leg.{Leg}
 use Rattle.policy.specs.declared.legs.LegEnd.{LegEnd}
 use Rattle.policy.specs.declared.legs.WeightCourse.{WeightCourse}
+use Rattle.policy.specs.declared.legs.MoveSet.{MoveSet}
+use Rattle.policy.specs.declared.legs.MoveSet.TheVariants.{Partial}
 use Rattle.policy.specs.declared.numbers.Heating.{Heating}
 use Rattle.policy.specs.declared.numbers.TheConstants.{LOW, NEAR, WIDE, RULED_FIRST, RULED, SEEKING}
 use Rattle.policy.specs.declared.plan.Bouts.{Bouts}
@@ -52,11 +54,15 @@ peak_of p number = min (p.hottest * slice_index p.cycles.peaks number / 1000) p.
 abbrev pub cycle_of : Plan → ℕ → Course
 cycle_of p later = cools_from p (peak_of p ((p.next_peak + later) % 4))
 
+-- the moves of a cycle: partial ones where rules' breaches weigh apart
+abbrev pub cycle_moves : Plan → MoveSet
+cycle_moves p = if p.apart then Partial else p.moves
+
 -- two cycles with so many steps
 abbrev pub two_cycles : Plan → ℕ → Bout
 two_cycles p steps = record {
-  first = leg_of p.moves (cycle_of p 0) (steps - steps / 2);
-  second = leg_of p.moves (cycle_of p 1) (steps / 2);
+  first = leg_of (cycle_moves p) (cycle_of p 0) (steps - steps / 2);
+  second = leg_of (cycle_moves p) (cycle_of p 1) (steps / 2);
 }
 
 -- what a bout of the present wave does
@@ -64,8 +70,8 @@ abbrev pub bout_among : Plan → Bouts → ℕ → Bout
 bout_among p (FirstHalf chains) number = bout_in_first_half chains number
 bout_among p (Tries shares) number = single p.moves (heat_of (heating_of p.reach)) (share_of shares number)
 bout_among p (Level shares) number = two_cycles p (share_of shares number)
-bout_among p (Copies shares) number = single p.moves (cycle_of p 0) (share_of shares number)
-bout_among p (Seeking shares) number = single p.moves SEEKING (share_of shares number)
+bout_among p (Copies shares) number = single (cycle_moves p) (cycle_of p 0) (share_of shares number)
+bout_among p (Seeking shares) number = single (cycle_moves p) SEEKING (share_of shares number)
 
 abbrev pub bout_of : Plan → ℕ → Bout
 bout_of p number = bout_among p p.bouts number

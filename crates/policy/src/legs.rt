@@ -2,7 +2,7 @@
 
 use moves::MoveKind;
 
-/// The kinds of moves that a leg draws from, each as often as the others.
+/// The kinds of moves that a leg draws from: each as often as the others, or as it is named.
 #[derive(Clone, Copy, Debug, PartialEq, Eq)]
 pub enum MoveSet {
     /// Homes and teams.
@@ -15,6 +15,8 @@ pub enum MoveSet {
     Repair,
     /// The moves of a repair and rounds.
     WideRepair,
+    /// Homes and, each twice as often, the partial moves: what breaks few rules.
+    Partial,
 }
 
 impl MoveSet {
@@ -42,6 +44,13 @@ impl MoveSet {
                 MoveKind::Homes,
                 MoveKind::Rounds,
                 MoveKind::PartRounds,
+                MoveKind::PartTeams,
+            ],
+            MoveSet::Partial => &[
+                MoveKind::Homes,
+                MoveKind::PartRounds,
+                MoveKind::PartRounds,
+                MoveKind::PartTeams,
                 MoveKind::PartTeams,
             ],
         }

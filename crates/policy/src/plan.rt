@@ -45,7 +45,7 @@ pub(crate) struct Plan {
     goes_on: bool,
     /// Whether rules' breaches weigh apart.
     apart: bool,
-    /// The kinds of moves that all legs after the first half draw.
+    /// The kinds of moves that all legs after the first half draw, but for cycles where rules' breaches weigh apart.
     moves: MoveSet,
     bouts: Bouts,
     reach: Reach,
@@ -68,7 +68,7 @@ pub(crate) struct Plan {
 impl Plan {
     ghost use Rattle.std.specs.Prelude.{◌≢◌, ◌+◌, ◌%◌, ◌^◌, ◌<◌, true, false};
     ghost use Rattle.policy.specs.Legs.{DoesCool, IsCourse, IsWeightCourse};
-    ghost use Rattle.policy.specs.Plan.{bout_of, cools_from, cycle_of, heat_of, heating_of, leg_after, plan_after, ruled_in, two_cycles, weights_of};
+    ghost use Rattle.policy.specs.Plan.{bout_of, cools_from, cycle_moves, cycle_of, heat_of, heating_of, leg_after, plan_after, ruled_in, two_cycles, weights_of};
     ghost use Rattle.policy.specs.Policy.{IsNewPlan, IsNextWave, second_half_for};
     ghost use Rattle.policy.specs.Waves.{IsNextPlan, IsSettled, ReachesFurther, WantsTries, cycles_in, moves_from};
 
@@ -279,8 +279,12 @@ impl Plan {
         match self.bouts {
             Bouts::FirstHalf(first_half) => first_half.bout(number),
             Bouts::Tries(shares) => Bout::single(self.moves, self.heats(), shares.of(number)),
-            Bouts::Copies(shares) => Bout::single(self.moves, self.cools(0), shares.of(number)),
-            Bouts::Seeking(shares) => Bout::single(self.moves, SEEKING, shares.of(number)),
+            Bouts::Copies(shares) => Bout::single(
+                self.cycle_moves(),
+                self.cools(0),
+                shares.of(number),
+            ),
+            Bouts::Seeking(shares) => Bout::single(self.cycle_moves(), SEEKING, shares.of(number)),
             Bouts::Level(shares) => self.two_cycles(shares.of(number)),
         }
     }
@@ -294,7 +298,7 @@ impl Plan {
         ensures second { IsCourse result.second.course }
     {
         let second = Leg {
-            moves: self.moves,
+            moves: self.cycle_moves(),
             course: self.cools(1),
             steps: steps / 2,
         };
@@ -304,6 +308,17 @@ impl Plan {
             ..second
         };
         Bout { first, second }
+    }
+
+    /// The moves of a cycle.
+    fn cycle_moves(&self) -> MoveSet
+        ensures { result ≡ cycle_moves self.now }
+    {
+        if self.apart {
+            MoveSet::Partial
+        } else {
+            self.moves
+        }
     }
 
     /// The leg that follows on a leg of a bout, if one does.

@@ -190,7 +190,7 @@ fn plus(sum: u64, number: u64, value: u64) -> u64 {
 
 /// The place of the set among all, from 1.
 fn code_of(moves: MoveSet) -> u64
-    ensures { result ≤ 5 }
+    ensures { result ≤ 6 }
 {
     match moves {
         MoveSet::Rigid => 1,
@@ -198,6 +198,7 @@ fn code_of(moves: MoveSet) -> u64
         MoveSet::Full => 3,
         MoveSet::Repair => 4,
         MoveSet::WideRepair => 5,
+        MoveSet::Partial => 6,
     }
 }
 

@@ -15,12 +15,13 @@ use std::process::Abort;
 use std::sync::Wait;
 use std::test::Fail;
 
-const MOVE_SETS: [MoveSet; 5] = [
+const MOVE_SETS: [MoveSet; 6] = [
     MoveSet::Rigid,
     MoveSet::Loose,
     MoveSet::Full,
     MoveSet::Repair,
     MoveSet::WideRepair,
+    MoveSet::Partial,
 ];
 
 /// The figures of a leg are those of its board, and the weight is within its limits.
