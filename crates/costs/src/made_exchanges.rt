@@ -4,7 +4,6 @@ ghost use Rattle.std.specs.Prelude.{◌≡◌, ◌<◌, ◌≤◌, IfSome, Match
 ghost use Rattle.league.specs.League.{teams};
 ghost use Rattle.fixtures.specs.Exchanges.{exchanged_by, IsExchange};
 ghost use Rattle.costs.specs.Costs.{cost_of, score_of, score_limit, AreWeights, IsCostWithin};
-ghost use Rattle.costs.specs.within.CostParts.{IsPredicted};
 ghost use Rattle.costs.specs.Evaluators.{IsEvaluatorAt};
 
 use crate::attempt::Attempt;
@@ -71,41 +70,14 @@ pub fn make_within(
 {
     prove_eq!(league.teams(), schedule.teams());
     let predicted = predicted_within(schedule, league, attempt)?;
+    let exchange = attempt.exchange;
     if league.rule_count() == 0 && !league.phased() {
         if predicted.score_by(attempt.weights) > attempt.limit {
             return None;
         }
-        attempt.exchange.make(schedule);
+        exchange.make(schedule);
         return Some(predicted);
     }
-    make_counted(schedule, league, evaluator, attempt, predicted)
-}
-
-/// Does so where the rules or, in a phased league, pairs in one half have to be counted. It stands apart so that leagues with neither don't pay
-/// for what it holds.
-#[inline(never)]
-fn make_counted(
-    schedule: &mut Schedule,
-    league: &League,
-    evaluator: &mut Evaluator,
-    attempt: &Attempt<'_>,
-    predicted: Cost,
-) -> Option<Cost>
-    requires same_size { teams league.now ≡ schedule.old.teams }
-    requires evaluator { IsEvaluatorAt league.now schedule.old evaluator.old }
-    requires can_be_made { IsExchange schedule.old attempt.now.exchange.now }
-    requires weights { AreWeights attempt.now.weights }
-    requires predicted { IsPredicted league.now schedule.old attempt.now.exchange.now predicted }
-    ensures value { IsCostWithin league.now attempt.now.weights attempt.now.limit (exchanged_by schedule.old attempt.now.exchange.now) result }
-    ensures schedule { MatchOption result (schedule.new ≡ schedule.old)
-        (λ cost. schedule.new ≡ exchanged_by schedule.old attempt.now.exchange.now) }
-    ensures again { IsExchange schedule.new attempt.now.exchange.now }
-    ensures back { IfSome result (λ cost. exchanged_by schedule.new attempt.now.exchange.now ≡ schedule.old) }
-    ensures small { IfSome result (λ cost. score_of league.now cost < score_limit) }
-    ensures evaluator { IsEvaluatorAt league.now schedule.new evaluator.new }
-{
-    prove_eq!(league.teams(), schedule.teams());
-    let exchange = attempt.exchange;
     let scope = Scope::of(attempt, schedule, evaluator);
     let deviations = &mut evaluator.deviations;
     deviations.learn(schedule, league);
