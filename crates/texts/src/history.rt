@@ -1,13 +1,20 @@
 //! The history of a board, as a script that leads to it.
 
+ghost use Rattle.std.specs.Prelude.{◌≡◌, ◌+◌, ◌≤◌, ◌++◌, length};
 ghost use Rattle.streams.specs.Writing.{Writes};
-ghost use Rattle.texts.specs.PlayText.{change_line, change_lines, history_text, move_line, two_places, three_places};
+ghost use Rattle.texts.specs.PlayText.{change_line, change_lines, counted, history_text, move_line, two_places, three_places};
 
 use crate::lines::write_numbered;
-use crate::pieces::{Piece, write_pieces};
+use arrayvec::ArrayVec;
 use fixture_board::{Board, Change};
 use moves::Move;
 use streams::{BufferedSink, Sink, WriteFault};
+
+/// A line has a word of at most 12 bytes, three numbers of at most 5, two blanks and its end.
+const MAX_LINE: usize = 32;
+
+/// The line of a change, gathered so that it is written at once.
+type Line = ArrayVec<u8, MAX_LINE>;
 
 /// Writes how long the history is, a script line for each entry, and `end`.
 pub(crate) fn write_history<W: Sink>(
@@ -59,18 +66,14 @@ fn write_two<W: Sink>(
     first: u8,
     second: u8,
 ) -> Result<(), WriteFault>
+    requires { length word.now ≤ 12 }
     ensures { Writes W.held W.tally out.old out.new result (two_places word.now first second) }
 {
-    write_pieces(
-        out,
-        &[
-            Piece::Text(word),
-            Piece::Number(first as u64 + 1),
-            Piece::Text(b" "),
-            Piece::Number(second as u64 + 1),
-            Piece::Text(b"\n"),
-        ],
-    )
+    let mut line = Line::new();
+    add_place(&mut line, word, first);
+    add_place(&mut line, b" ", second);
+    line.push(b'\n');
+    out.write(line.as_slice())
 }
 
 fn write_three<W: Sink>(
@@ -80,18 +83,25 @@ fn write_three<W: Sink>(
     second: u8,
     third: u8,
 ) -> Result<(), WriteFault>
+    requires { length word.now ≤ 12 }
     ensures { Writes W.held W.tally out.old out.new result (three_places word.now first second third) }
 {
-    write_pieces(
-        out,
-        &[
-            Piece::Text(word),
-            Piece::Number(first as u64 + 1),
-            Piece::Text(b" "),
-            Piece::Number(second as u64 + 1),
-            Piece::Text(b" "),
-            Piece::Number(third as u64 + 1),
-            Piece::Text(b"\n"),
-        ],
-    )
+    let mut line = Line::new();
+    add_place(&mut line, word, first);
+    add_place(&mut line, b" ", second);
+    add_place(&mut line, b" ", third);
+    line.push(b'\n');
+    out.write(line.as_slice())
+}
+
+/// Adds a text and a team or a round after it, from 1.
+fn add_place(line: &mut Line, text: &[u8], place: u8)
+    requires { length line.old.items + length text.now + 5 ≤ 32 }
+    ensures items { line.new.items ≡ line.old.items ++ counted text.now (place + 1) }
+    ensures length { length line.new.items ≤ length line.old.items + length text.now + 5 }
+{
+    let mut digits = itoa::Buffer::new();
+    let number = digits.format(u16::from(place) + 1).as_bytes();
+    line.try_extend_from_slice(text).unwrap();
+    line.try_extend_from_slice(number).unwrap();
 }
