@@ -8,7 +8,7 @@ use crate::scope::Scope;
 use fixtures::Schedule;
 use league::limits::MAX_RULES;
 use league::{League, Rule, RuleSet};
-use robinx::{HomeCounts, deviation, deviation_part, part_of_known};
+use robinx::{HomeCounts, deviation, deviation_part};
 
 /// How many exchanges are judged while no deviation is known, before all are counted: about as many as cost the same.
 const TRIES: u8 = 16;
@@ -29,14 +29,13 @@ pub(crate) struct KeptDeviations {
 }
 
 impl KeptDeviations {
-    ghost use Rattle.std.specs.Prelude.{◌≡◌, ℕ, ◌<◌, ◌≤◌, ◌==◌, ◌&&◌, ◌||◌, not, if◌then◌else◌, length, slice_index, true, false, is_some, IfSome};
+    ghost use Rattle.std.specs.Prelude.{◌≡◌, ℕ, ◌<◌, ◌≤◌, ◌==◌, ◌&&◌, ◌||◌, not, if◌then◌else◌, length, slice_index, true, false};
     ghost use Rattle.league.specs.League.{teams};
     ghost use Rattle.league.specs.Limits.{deviation_limit, max_rules};
     ghost use Rattle.league.specs.RuleLimits.{IsBodyFor};
     ghost use Rattle.league.specs.Sets.{has, IsBelow};
-    ghost use Rattle.fixtures.specs.Games.{Games};
     ghost use Rattle.robinx.specs.Deviations.{deviation};
-    ghost use Rattle.robinx.specs.Parts.{deviation_part, is_all_or_none};
+    ghost use Rattle.robinx.specs.Parts.{deviation_part};
     ghost use Rattle.costs.specs.within.KeptDeviations.{AreKeptDeviations, IsKeptOf, rest_at};
 
     /// Nothing counted yet.
@@ -107,7 +106,7 @@ impl KeptDeviations {
         if self.kept[i] == 0 { 0 } else { self.next[i] }
     }
 
-    /// The part of a rule's deviation that the exchange can alter, before it. Nothing is counted where the deviation that is known tells it.
+    /// The part of a rule's deviation that the exchange can alter, before it. Nothing is counted where the deviation is known and all of it is the part.
     pub(crate) fn part_before(
         &mut self,
         schedule: &Schedule,
@@ -123,24 +122,13 @@ impl KeptDeviations {
         ensures same { IsKeptOf self.new self.old }
         ensures next { self.new.next ≡ self.old.next }
     {
-        prove!(schedule.teams() > 0);
-        if let Some(part) = self.known_part(rule, i, scope) {
-            return part;
-        }
-        deviation_part(schedule, rule, scope.main, scope.flipping, &mut self.counts)
-    }
-
-    /// That part, if the deviations are known and the exchange can alter all of this one or nothing.
-    fn known_part(&self, rule: &Rule, i: usize, scope: &Scope<'_>) -> Option<u64>
-        requires index { i < length self.now.kept }
-        ensures some { is_some result ≡ (self.now.is_known && is_all_or_none rule.now.body) }
-        ensures value { (g : Games) → (self.now.is_known ≡ true → slice_index self.now.kept i ≡ deviation g rule.now.body) →
-            IfSome result (λ part. part ≡ deviation_part g scope.now.main.teams scope.now.main.rounds scope.now.flipping rule.now.body) }
-    {
-        if !self.is_known {
-            return None;
-        }
-        part_of_known(rule, scope.main, scope.flipping, u64::from(self.kept[i]))
+        let known = if self.is_known {
+            Some(u64::from(self.kept[i]))
+        } else {
+            None
+        };
+        let counts = &mut self.counts;
+        deviation_part(schedule, rule, scope.main, scope.flipping, known, counts)
     }
 
     /// Keeps the deviations after the exchange of the rules that it can alter, of so many rules.

@@ -124,7 +124,7 @@ pub(crate) fn with_rules(
         }
         let rule = league.rule(i);
         let counts = &mut deviations.counts;
-        let part = deviation_part(schedule, rule, scope.main, scope.flipping, counts);
+        let part = deviation_part(schedule, rule, scope.main, scope.flipping, None, counts);
         deviations.next[i] = deviations.rest(i).saturating_add(part as u32);
         let added = Penalties::of_rule(rule.weight, part);
         cost.hard += added.hard;

@@ -108,9 +108,3 @@ can_alter body rounds = looks_at_round body rounds && tells_apart body rounds
 unfoldable pub deviation_part : Games → ℕ → ℕ → ℕ → RuleBody → ℕ
 deviation_part g main rounds sides body =
     if can_alter body (has rounds) then changing_terms g main rounds sides body else 0
-
--- whether that part is always all of the deviation or none of it
-unfoldable pub is_all_or_none : RuleBody → Bool
-is_all_or_none (Br2 teams slots most) = true
-is_all_or_none (Fa2 teams slots most) = true
-is_all_or_none body = false

@@ -1,6 +1,6 @@
 //! Breaks, and the rules on them: at most so many rounds in which a team stays on its side.
 
-ghost use Rattle.std.specs.Prelude.{◌≡◌, ℕ, ◌+◌, ◌-◌, ◌<◌, ◌≤◌, not, if◌then◌else◌};
+ghost use Rattle.std.specs.Prelude.{◌≡◌, ℕ, ◌+◌, ◌-◌, ◌<◌, ◌≤◌, not};
 ghost use Rattle.std.specs.Bool.{beq};
 ghost use Rattle.league.specs.Limits.{max_rounds};
 ghost use Rattle.league.specs.Sets.{has, IsBelow};
@@ -9,10 +9,8 @@ ghost use Rattle.league.specs.declared.rule.RuleBody.TheVariants as RuleBody;
 ghost use Rattle.league.specs.declared.rule.Side.TheVariants.{Any};
 ghost use Rattle.fixtures.specs.Games.{round_count, IsDoubleRoundRobin};
 ghost use Rattle.robinx.specs.Deviations.{breaks, deviation};
-ghost use Rattle.robinx.specs.Touches.{has_touched_team};
 ghost use Rattle.robinx.specs.within.Walked.{breaks_together};
 
-use crate::around::Around;
 use crate::counted_games::over;
 use crate::windows::before;
 use fixtures::Schedule;
@@ -88,27 +86,6 @@ pub(crate) fn br2(schedule: &Schedule, teams: TeamSet, slots: SlotSet, most: u32
     ensures { result ≡ deviation schedule.now (RuleBody.Br2 teams slots most) }
 {
     over(breaks_together(schedule, teams, slots), most)
-}
-
-/// `br2` if the change can alter it: if one of the teams may change its sides.
-#[tactic(auto, unfolding(crate::specs::Touches::has_touched_team))]
-pub(crate) fn br2_part(
-    schedule: &Schedule,
-    change: &Around,
-    teams: TeamSet,
-    slots: SlotSet,
-    most: u32,
-) -> u64
-    requires round_robin { IsDoubleRoundRobin schedule.now }
-    requires teams { IsBelow schedule.now.teams teams }
-    ensures { result ≡ (if has_touched_team teams (has change.now.sides) then
-        deviation schedule.now (RuleBody.Br2 teams slots most) else 0) }
-{
-    if teams.intersects(change.sides) {
-        br2(schedule, teams, slots, most)
-    } else {
-        0
-    }
 }
 
 /// How many breaks the teams have in the slots, all together.

@@ -1,13 +1,13 @@
 //! Capacity rules: at most so many games of a side, against some opponents, in some rounds.
 
-ghost use Rattle.std.specs.Prelude.{◌≡◌, ℕ, ◌+◌, ◌-◌, ◌*◌, ◌<◌, ◌≤◌, nat_lt, true};
+ghost use Rattle.std.specs.Prelude.{◌≡◌, ℕ, ◌+◌, ◌-◌, ◌*◌, ◌<◌, ◌≤◌, ◌&&◌, nat_lt, true, IfSome};
 ghost use Rattle.league.specs.Limits.{max_rounds};
 ghost use Rattle.league.specs.Sets.{has, IsBelow};
 ghost use Rattle.league.specs.Sums.{sum_where};
 ghost use Rattle.league.specs.declared.rule.RuleBody.TheVariants as RuleBody;
 ghost use Rattle.fixtures.specs.Games.{round_count, IsDoubleRoundRobin};
 ghost use Rattle.robinx.specs.Deviations.{over, games_in_round, deviation};
-ghost use Rattle.robinx.specs.Parts.{over_in_met_windows, changing_terms};
+ghost use Rattle.robinx.specs.Parts.{counts_otherwise, over_in_met_windows, changing_terms};
 ghost use Rattle.robinx.specs.within.Walked.{over_from_starts};
 
 use crate::around::{Around, teams_otherwise};
@@ -25,14 +25,6 @@ use league::{SlotSet, TeamSet};
 /// Up to so many slots are counted one by one, which takes fewer instructions there.
 const FEW_SLOTS: u32 = 6;
 
-/// A rule of class CA3: in each window of consecutive rounds at most so many of these games.
-#[derive(Clone, Copy, Drop)]
-pub(crate) struct WindowRule {
-    pub games: CountedGames,
-    pub window: u32,
-    pub most: u32,
-}
-
 /// The games of each team that count in the slots, over the most.
 #[tactic(auto, unfolding(crate::specs::Deviations::deviation))]
 pub(crate) fn ca2(schedule: &Schedule, games: &CountedGames, slots: SlotSet, most: u32) -> u64
@@ -47,6 +39,42 @@ pub(crate) fn ca2(schedule: &Schedule, games: &CountedGames, slots: SlotSet, mos
         total += over(games_of_team(schedule, games, opponents, slots, team), most);
     }
     total
+}
+
+/// The part of `ca2` that the change can alter: all of it, if it is known and each of the teams may have other games.
+pub(crate) fn ca2_part(
+    schedule: &Schedule,
+    games: &CountedGames,
+    change: &Around,
+    slots: SlotSet,
+    most: u32,
+    known: Option<u64>,
+) -> u64
+    requires round_robin { IsDoubleRoundRobin schedule.now }
+    requires teams { IsBelow schedule.now.teams games.now.teams }
+    requires known { IfSome known (λ whole. whole ≡
+        deviation schedule.now (RuleBody.Ca2 games.now.teams games.now.side games.now.opponents slots most)) }
+    ensures { result ≡ changing_terms schedule.now change.now.main change.now.rounds change.now.sides
+        (RuleBody.Ca2 games.now.teams games.now.side games.now.opponents slots most) }
+{
+    let otherwise = games_otherwise(schedule, games, change);
+    match known {
+        Some(whole) if otherwise.teams == games.teams => whole,
+        _ => ca2(schedule, &otherwise, slots, most),
+    }
+}
+
+/// Of the games that count those of teams of which other games may count.
+fn games_otherwise(schedule: &Schedule, games: &CountedGames, change: &Around) -> CountedGames
+    requires { IsBelow schedule.now.teams games.now.teams }
+    ensures members { (t : ℕ) → has result.teams t ≡ (has games.now.teams t &&
+        counts_otherwise schedule.now change.now.main change.now.rounds change.now.sides games.now.opponents t) }
+    ensures side { result.side ≡ games.now.side }
+    ensures opponents { result.opponents ≡ games.now.opponents }
+    ensures below { IsBelow schedule.now.teams result.teams }
+{
+    let teams = teams_otherwise(schedule, change, games.teams, games.opponents);
+    CountedGames::new(teams, games.side, games.opponents)
 }
 
 /// The games of each team that count in each window of consecutive rounds, over the most.
@@ -64,43 +92,58 @@ pub(crate) fn ca3(schedule: &Schedule, games: &CountedGames, window: u32, most: 
     over_by_teams(schedule, games, SlotSet::below(windows), length, most)
 }
 
-/// The windows of a rule of class CA3 that the change can alter, over the most.
-pub(crate) fn met_windows(schedule: &Schedule, change: &Around, rule: &WindowRule) -> u64
-    requires round_robin { IsDoubleRoundRobin schedule.now }
-    requires teams { IsBelow schedule.now.teams rule.now.games.teams }
-    requires least { 1 ≤ rule.now.window }
-    requires window { rule.now.window ≤ round_count schedule.now.teams }
-    ensures { result ≡ changing_terms schedule.now change.now.main change.now.rounds change.now.sides
-        (RuleBody.Ca3 rule.now.games.teams rule.now.games.side rule.now.games.opponents rule.now.window rule.now.most) }
-{
-    let CountedGames {
-        teams,
-        side,
-        opponents,
-    } = rule.games;
-    let otherwise = teams_otherwise(schedule, change, teams, opponents);
-    let games = CountedGames::new(otherwise, side, opponents);
-    ca3_part(schedule, &games, change.rounds, rule.window, rule.most)
-}
-
-/// The windows of `ca3` that have one of the rounds.
-fn ca3_part(
+/// The part of `ca3` that the change can alter.
+pub(crate) fn ca3_part(
     schedule: &Schedule,
     games: &CountedGames,
-    rounds: SlotSet,
+    change: &Around,
     window: u32,
     most: u32,
+    known: Option<u64>,
 ) -> u64
     requires round_robin { IsDoubleRoundRobin schedule.now }
     requires teams { IsBelow schedule.now.teams games.now.teams }
     requires least { 1 ≤ window }
     requires window { window ≤ round_count schedule.now.teams }
+    requires known { IfSome known (λ whole. whole ≡
+        deviation schedule.now (RuleBody.Ca3 games.now.teams games.now.side games.now.opponents window most)) }
+    ensures { result ≡ changing_terms schedule.now change.now.main change.now.rounds change.now.sides
+        (RuleBody.Ca3 games.now.teams games.now.side games.now.opponents window most) }
+{
+    let otherwise = games_otherwise(schedule, games, change);
+    if otherwise.teams == games.teams {
+        met_windows(schedule, games, change.rounds, window, most, known)
+    } else {
+        met_windows(schedule, &otherwise, change.rounds, window, most, None)
+    }
+}
+
+/// The windows of `ca3` that have one of the rounds: all of it, if it is known and each window has one.
+fn met_windows(
+    schedule: &Schedule,
+    games: &CountedGames,
+    rounds: SlotSet,
+    window: u32,
+    most: u32,
+    known: Option<u64>,
+) -> u64
+    requires round_robin { IsDoubleRoundRobin schedule.now }
+    requires teams { IsBelow schedule.now.teams games.now.teams }
+    requires least { 1 ≤ window }
+    requires window { window ≤ round_count schedule.now.teams }
+    requires known { IfSome known (λ whole. whole ≡
+        deviation schedule.now (RuleBody.Ca3 games.now.teams games.now.side games.now.opponents window most)) }
     ensures { result ≡ sum_where schedule.now.teams (has games.now.teams)
         (over_in_met_windows schedule.now games.now.side (has games.now.opponents) window most (has rounds)) }
 {
     let length = window as u8;
-    let windows = schedule.rounds() + 1 - length;
-    let starts = SlotSet::below(windows).intersection(rounds.starts_meeting(length));
+    let windows = SlotSet::below(schedule.rounds() + 1 - length);
+    let starts = windows.intersection(rounds.starts_meeting(length));
+    if let Some(whole) = known {
+        if starts == windows {
+            return whole;
+        }
+    }
     if goes_by_rounds(schedule, games, starts, window, most) {
         let rows = rows_near(schedule, games, rounds, length);
         over_in_rows(&rows, games.teams, starts, length, most)
@@ -185,16 +228,20 @@ pub(crate) fn ca4(schedule: &Schedule, games: &CountedGames, capacity: &Capacity
     }
 }
 
-/// The part of `ca4` that the change can alter.
+/// The part of `ca4` that the change can alter: all of it over all slots together, if one of the teams may have other games.
 pub(crate) fn ca4_part(
     schedule: &Schedule,
     games: &CountedGames,
     change: &Around,
     capacity: &Capacity,
+    known: Option<u64>,
 ) -> u64
     requires round_robin { IsDoubleRoundRobin schedule.now }
     requires teams { IsBelow schedule.now.teams games.now.teams }
     requires slots { IsBelow (round_count schedule.now.teams) capacity.now.slots }
+    requires known { IfSome known (λ whole. whole ≡
+        deviation schedule.now (RuleBody.Ca4 games.now.teams games.now.side games.now.opponents
+        capacity.now.slots capacity.now.each capacity.now.most)) }
     ensures { result ≡ changing_terms schedule.now change.now.main change.now.rounds change.now.sides
         (RuleBody.Ca4 games.now.teams games.now.side games.now.opponents
         capacity.now.slots capacity.now.each capacity.now.most) }
@@ -205,9 +252,11 @@ pub(crate) fn ca4_part(
     }
     if capacity.each {
         let slots = capacity.slots.intersection(change.rounds);
-        over_in_slots(schedule, games, slots, capacity.most)
-    } else {
-        over(games_of_all(schedule, games, capacity.slots), capacity.most)
+        return over_in_slots(schedule, games, slots, capacity.most);
+    }
+    match known {
+        Some(whole) => whole,
+        None => over(games_of_all(schedule, games, capacity.slots), capacity.most),
     }
 }
 

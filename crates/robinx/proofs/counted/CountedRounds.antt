@@ -110,6 +110,19 @@ met_starts g side opponents rounds window most t whole meeting starts windows si
     (λ s below. is s ∙ ap (λ b. b && has meeting s) (wholes s ∙ lt-ltb s windows (omega (arith, size, below))) ∙ meets s)
     (λ s below passes. refl)
 
+-- if all windows have a round of the set
+pub all_met : (g : Games) (side : Side) (opponents rounds : ℕ → Bool) (window most t whole meeting starts windows : ℕ) →
+    windows ≡ round_count g.teams + 1 - window →
+    ((s : ℕ) → has whole s ≡ nat_lt s windows) → ((s : ℕ) → has meeting s ≡ any_below window (λ k. rounds (s + k))) →
+    ((s : ℕ) → has starts s ≡ (has whole s && has meeting s)) → starts ≡ whole →
+    over_in_windows g side opponents window most t ≡ over_in_met_windows g side opponents window most rounds t
+unfolding over_in_windows
+all_met g side opponents rounds window most t whole meeting starts windows size wholes meets is all =
+    sym (sum_where_all (round_count g.teams + 1 - window) (has starts)
+    (λ first. over (games_in_window g side opponents window t first) most)
+    (λ s below. ap (λ set. has set s) all ∙ wholes s ∙ lt-ltb s windows (omega (arith, size, below)))) ∙
+    met_starts g side opponents rounds window most t whole meeting starts windows size wholes meets is
+
 -- all games that count, team by team
 pub together_by_teams : (g : Games) (side : Side) (teams opponents slots : ℕ → Bool) →
     sum_where g.teams teams (games_of_team g side opponents slots) ≡

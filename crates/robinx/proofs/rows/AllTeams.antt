@@ -18,7 +18,7 @@ module _ (g : Games) (rr : IsDoubleRoundRobin g) (side : Side) (all : ℕ) (memb
       ap (λ (b : Bool). is_on_side side (cell g t r).home && b)
       (members (cell g t r).opponent ∙ lt-ltb _ _ (is_cell g rr t r in_t in_r).pair.away_in)
 
-  games_of_team-all : (slots : ℕ → Bool) (t : ℕ) → t < g.teams →
+  pub games_of_team-all : (slots : ℕ → Bool) (t : ℕ) → t < g.teams →
       games_of_team g side (has all) slots t ≡ games_of_team g side (λ _. true) slots t
   unfolding games_of_team
   games_of_team-all slots t in_t =

@@ -4,7 +4,7 @@ use crate::tests::checks::check_same;
 use crate::tests::rule_leagues::{check_deviation, league_with};
 use fixtures::{Schedule, Touched, berger};
 use league::{League, SlotSet, TeamSet};
-use robinx::{HomeCounts, deviation_part};
+use robinx::{HomeCounts, deviation, deviation_part};
 use std::alloc::Global;
 use std::process::Abort;
 use std::test::Fail;
@@ -119,19 +119,67 @@ const OF_HOMES: &[(&str, &str, u64)] = &[
     ),
 ];
 
-/// The part of the deviation from a league's only rule that a change of these cells can alter, if these teams may change sides.
+/// Of these an exchange of teams 1 and 2 in all rounds but 2 and 7 can alter what the second says.
+const OF_TEAMS: &[(&str, &str, u64)] = &[
+    (
+        r#""class":"CA1","teams":[1,2],"mode":"H","slots":[1,2,3,4],"max":1"#,
+        r#""class":"CA1","teams":[1,2],"mode":"H","slots":[1,2,3,4],"max":1"#,
+        4,
+    ),
+    (
+        r#""class":"CA2","teams1":[1,2,3,4,5,6],"mode":"H","teams2":[1,3],"slots":[1,2,3,4,5],"max":0"#,
+        r#""class":"CA2","teams1":[1,2,3,4,5,6],"mode":"H","teams2":[1,3],"slots":[1,2,3,4,5],"max":0"#,
+        4,
+    ),
+    (
+        r#""class":"CA2","teams1":[1,2,3,4,5,6],"mode":"H","teams2":[1,2],"slots":[1,2,3,4,5],"max":0"#,
+        r#""class":"CA2","teams1":[1,2],"mode":"H","teams2":[1,2],"slots":[1,2,3,4,5],"max":0"#,
+        1,
+    ),
+    (
+        r#""class":"CA3","teams1":[1,2,3,4,5,6],"mode":"HA","teams2":[1,3],"intp":3,"max":1"#,
+        r#""class":"CA3","teams1":[1,2,3,4,5,6],"mode":"HA","teams2":[1,3],"intp":3,"max":1"#,
+        6,
+    ),
+    (
+        r#""class":"CA3","teams1":[1,2,3,4,5,6],"mode":"HA","teams2":[1,2],"intp":3,"max":0"#,
+        r#""class":"CA3","teams1":[1,2],"mode":"HA","teams2":[1,2],"intp":3,"max":0"#,
+        10,
+    ),
+    (
+        r#""class":"CA3","teams1":[3,4],"mode":"HA","teams2":[2,3,5],"intp":4,"max":1"#,
+        r#""class":"CA3","teams1":[3,4],"mode":"HA","teams2":[2,3,5],"intp":4,"max":1"#,
+        14,
+    ),
+    (
+        r#""class":"CA4","teams1":[3,4],"mode":"HA","teams2":[1,5],"mode2":"GLOBAL","slots":[1,2,3,4],"max":1"#,
+        r#""class":"CA4","teams1":[3,4],"mode":"HA","teams2":[1,5],"mode2":"GLOBAL","slots":[1,2,3,4],"max":1"#,
+        3,
+    ),
+    (
+        r#""class":"BR1","teams":[1,2],"mode":"HA","intp":0"#,
+        r#""class":"BR1","teams":[1,2],"mode":"HA","intp":0"#,
+        6,
+    ),
+];
+
+/// The part of the deviation from a league's only rule that a change of these cells can alter, if these teams may change sides: counted, and
+/// where the deviation is known.
 fn part(
     schedule: &Schedule,
     league: &League,
     main: Touched,
     sides: TeamSet,
     counts: &mut HomeCounts,
-) -> Option<u64> {
+) -> Option<(u64, u64)> {
     if league.teams() != schedule.teams() || league.rule_count() != 1 {
         return None;
     }
     let rule = league.rule(0);
-    Some(deviation_part(schedule, rule, main, sides, counts))
+    let known = Some(deviation(schedule, rule));
+    let counted = deviation_part(schedule, rule, main, sides, None, counts);
+    let told = deviation_part(schedule, rule, main, sides, known, counts);
+    Some((counted, told))
 }
 
 /// The games of teams 1 and 2 with each other.
@@ -142,31 +190,50 @@ fn their_games() -> Touched {
     }
 }
 
-/// The part that an exchange of the homes of teams 1 and 2 can alter.
+/// All other games of these two.
+fn their_other_games() -> Touched {
+    Touched {
+        teams: TeamSet::below(2),
+        rounds: SlotSet::below(10).difference(their_games().rounds),
+    }
+}
+
+/// The part that a change of these games of teams 1 and 2 can alter.
 fn check_part(
     rt: &impl Abort,
     alloc: Global,
     start: &Schedule,
+    main: Touched,
     (rule, count): (&str, u64),
 ) -> Result<(), Fail> {
     let league = league_with(alloc, 6, rule)?;
-    let main = their_games();
     let found = part(start, &league, main, main.teams, &mut HomeCounts::new());
-    check_same(rt, &(rule, found), &(rule, Some(count)));
+    check_same(rt, &(rule, found), &(rule, Some((count, count))));
     Ok(())
 }
 
-fn check_parts(rt: &impl Abort, alloc: Global, start: &Schedule) -> Result<(), Fail> {
-    for &(rule, altered, count) in OF_HOMES {
-        check_part(rt, alloc, start, (rule, count))?;
-        check_deviation(rt, alloc, start, (altered, count))?;
+fn check_parts(
+    rt: &impl Abort,
+    alloc: Global,
+    main: Touched,
+    cases: &[(&str, &str, u64)],
+) -> Result<(), Fail> {
+    let start = berger(alloc, 6)?;
+    for &(rule, altered, count) in cases {
+        check_part(rt, alloc, &start, main, (rule, count))?;
+        check_deviation(rt, alloc, &start, (altered, count))?;
     }
     Ok(())
 }
 
 #[test]
 fn parts_of_an_exchange_of_homes(rt: HostRuntime) -> Result<(), Fail> {
-    check_parts(&rt, rt.alloc(), &berger(rt.alloc(), 6)?)
+    check_parts(&rt, rt.alloc(), their_games(), OF_HOMES)
+}
+
+#[test]
+fn parts_of_an_exchange_of_teams(rt: HostRuntime) -> Result<(), Fail> {
+    check_parts(&rt, rt.alloc(), their_other_games(), OF_TEAMS)
 }
 
 #[test]
@@ -177,6 +244,6 @@ fn part_against_all_teams_is_of_sides(rt: HostRuntime) -> Result<(), Fail> {
     let main = their_games();
     let sides = TeamSet::empty().with(0);
     let found = part(&start, &league, main, sides, &mut HomeCounts::new());
-    check_same(&rt, &(rule, found), &(rule, Some(2)));
+    check_same(&rt, &(rule, found), &(rule, Some((2, 2))));
     Ok(())
 }

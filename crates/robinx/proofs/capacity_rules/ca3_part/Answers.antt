@@ -1,49 +1,21 @@
-use Rattle.std.proofs.Common.{ℕ, ◌+◌, ◌-◌, ◌^◌, ◌≤◌, get_or, refl, sym, ◌∙◌, ap, subst, arith}
-use Rattle.std.proofs.Math.Pow.{pow_mono}
-use Rattle.std.proofs.lemmas.Bool.{and_parts}
-use Rattle.league.specs.Limits.{max_teams, max_rounds}
-use Rattle.league.specs.Sets.{has, IsBelow}
-use Rattle.league.specs.Sums.{count_where}
-use Rattle.league.proofs.ForCallers.{sum_where_same}
-use Rattle.robinx.specs.Deviations.{over}
-use Rattle.robinx.proofs.counted.CountedRounds.{met_starts}
-use Rattle.robinx.proofs.rows.RowsByRounds.{windows_of_rows}
-use Rattle.robinx.proofs.walks.Sets.{sum_where_swap}
+use Rattle.std.proofs.Common.{◌≡◌, sym, ◌∙◌, ap}
+use Rattle.std.proofs.lemmas.Bool.{eqb-true}
+use Rattle.league.specs.Sets.{has}
+use Rattle.robinx.proofs.balances.PartTerms.{Ca3-terms}
 use Rattle.robinx.proofs.capacity_rules.ca3_part.Goals as goal
 
-pub over_in_rows-requires-clause-teams : goal.over_in_rows-requires-clause-teams
-over_in_rows-requires-clause-teams c =
-    let grows : 2 ^ c.args.schedule.now.teams ≤ 2 ^ max_teams = pow_mono c.requires.round_robin.most in
-    omega (arith, grows, c.requires.teams)
+pub returns-then-eq : goal.returns-then-eq
+returns-then-eq c =
+    let others = c.games_otherwise-otherwise in
+    let all : others.result.teams ≡ c.args.games.now.teams = eqb-true _ _ (sym c.eq.ensures ∙ c.if-eq.true) in
+    c.met_windows.ensures ∙
+    Ca3-terms c.args.schedule.now c.args.change.now.main c.args.change.now.rounds c.args.change.now.sides c.args.games.now.teams
+    c.args.games.now.side c.args.games.now.opponents c.args.window c.args.most c.args.games.now.teams
+    (λ t. ap (λ teams. has teams t) (sym all) ∙ others.ensures.members t)
 
-pub over_in_rows-requires-clause-starts : goal.over_in_rows-requires-clause-starts
-over_in_rows-requires-clause-starts c =
-    let grows : 2 ^ (c.rounds.result + 1 - c.args.window) ≤ 2 ^ (max_rounds + 1 - c.args.window) = pow_mono (omega (arith, c.rounds.ensures.most)) in
-    omega (arith, grows, c.intersection-starts.ensures.below _ c.below.ensures.below)
-
-pub returns-then-goes_by_rounds : goal.returns-then-goes_by_rounds
-returns-then-goes_by_rounds c =
-    c.over_in_rows.ensures c.args.schedule.now.teams _ c.requires.teams
-    (subst (λ (n : ℕ). IsBelow (n + 1 - c.args.window) c.intersection-starts.result) c.rounds.ensures.number
-    (c.intersection-starts.ensures.below _ c.below.ensures.below)) ∙
-    sum_where_swap _ c.args.schedule.now.teams (has c.intersection-starts.result) (has c.args.games.now.teams)
-    (λ first t. over (count_where c.args.window (λ k. has (get_or c.rows_near-rows.result (first + k) 0) t)) c.args.most) ∙
-    sum_where_same _ _ _ _ _ (λ t below. refl)
-    (λ t below is.
-    windows_of_rows c.args.schedule.now c.args.games.now.side (has c.args.games.now.opponents) (has c.args.rounds)
-    c.rows_near-rows.result c.args.window c.args.most t c.intersection-starts.result
-    (λ s here. sym (c.starts_meeting.ensures.members s) ∙
-    (and_parts (has c.below.result s) (has c.starts_meeting.result s) (sym (c.intersection-starts.ensures.members s) ∙ here)).1)
-    (λ r at in_r in_at. c.rows_near-rows.ensures.members t r at below in_r in_at) ∙
-    met_starts c.args.schedule.now c.args.games.now.side (has c.args.games.now.opponents) (has c.args.rounds) c.args.window c.args.most t
-    c.below.result c.starts_meeting.result c.intersection-starts.result _ (ap (λ n. n + 1 - c.args.window) c.rounds.ensures.number)
-    c.below.ensures.members c.starts_meeting.ensures.members c.intersection-starts.ensures.members)
-
-pub returns-else-goes_by_rounds : goal.returns-else-goes_by_rounds
-returns-else-goes_by_rounds c =
-    c.over_by_teams.ensures ∙
-    sum_where_same _ _ _ _ _ (λ t below. refl)
-    (λ t below is.
-    met_starts c.args.schedule.now c.args.games.now.side (has c.args.games.now.opponents) (has c.args.rounds) c.args.window c.args.most t
-    c.below.result c.starts_meeting.result c.intersection-starts.result _ (ap (λ n. n + 1 - c.args.window) c.rounds.ensures.number)
-    c.below.ensures.members c.starts_meeting.ensures.members c.intersection-starts.ensures.members)
+pub returns-else-eq : goal.returns-else-eq
+returns-else-eq c =
+    let others = c.games_otherwise-otherwise in
+    rw (others.ensures.side, others.ensures.opponents) at c.met_windows-else-eq.ensures ∙
+    Ca3-terms c.args.schedule.now c.args.change.now.main c.args.change.now.rounds c.args.change.now.sides c.args.games.now.teams
+    c.args.games.now.side c.args.games.now.opponents c.args.window c.args.most others.result.teams others.ensures.members

@@ -1,6 +1,6 @@
 use Rattle.std.proofs.Common.{◌≡◌, ◌∙◌, ap, sym, true, false}
 use Rattle.robinx.specs.Deviations.{over}
-use Rattle.robinx.proofs.balances.PartTerms.{one_is_met, Ca4-none, Ca4-all, Ca4-each}
+use Rattle.robinx.proofs.balances.PartTerms.{one_is_met, Ca4-none, Ca4-all, Ca4-whole, Ca4-each}
 use Rattle.robinx.proofs.capacity_rules.ca4_part.Goals as goal
 
 pub returns-then-not-intersects : goal.returns-then-not-intersects
@@ -18,8 +18,15 @@ returns-then-capacity c =
     Ca4-each _ _ _ _ _ _ _ _ _ _ c.intersection-slots.ensures.members (sym (one_is_met _ _ _ c.teams_otherwise-otherwise.ensures.members) ∙
     sym c.intersects.ensures ∙ one))
 
-pub returns-else-capacity : goal.returns-else-capacity
-returns-else-capacity c =
+pub returns-in-Some : goal.returns-in-Some
+returns-in-Some c =
+    let one : c.intersects.result ≡ true = cc in
+    rw c.in-Some.is at c.requires.known ∙
+    Ca4-whole _ _ _ _ _ _ _ _ _ c.args.capacity.now.each c.if-capacity.false (sym (one_is_met _ _ _ c.teams_otherwise-otherwise.ensures.members) ∙
+    sym c.intersects.ensures ∙ one)
+
+pub returns-in-None : goal.returns-in-None
+returns-in-None c =
     let one : c.intersects.result ≡ true = cc in
     rw c.if-capacity.false
     (c.over.ensures.value ∙ ap (λ n. over n c.args.capacity.now.most) c.games_of_all.ensures ∙

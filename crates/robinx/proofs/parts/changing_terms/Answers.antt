@@ -1,41 +1,75 @@
-use Rattle.std.proofs.Common.{◌≡◌, ℕ, ◌&&◌, inl, inr, sym, ◌∙◌, ap, refl}
-use Rattle.std.proofs.lemmas.Bool.{eq-eqb}
+use Rattle.std.proofs.Common.{◌≡◌, ℕ, Bool, if◌then◌else◌, IfSome, inl, inr, sym, ◌∙◌, ap, subst}
+use Rattle.std.proofs.lemmas.Bool.{eqb-true}
 use Rattle.league.specs.Sets.{has, all_numbers}
+use Rattle.league.specs.declared.rule.RuleBody.{RuleBody}
+use Rattle.league.specs.declared.rule.RuleBody.TheVariants.{Br1, Ca2}
 use Rattle.league.proofs.ForCallers.{has_all_numbers}
-use Rattle.robinx.specs.Parts.{counts_otherwise, changing_terms}
+use Rattle.robinx.specs.declared.counted_games.CountedGames.{CountedGames}
+use Rattle.robinx.specs.Deviations.{deviation}
+use Rattle.robinx.specs.Parts.{changing_terms}
+use Rattle.robinx.specs.Touches.{has_touched_team}
+use Rattle.robinx.specs.within.Walked.{counted_of}
 use Rattle.robinx.proofs.rows.AllTeams.{Ca2-all}
-use Rattle.robinx.proofs.balances.PartTerms.{Ca1-terms, Ca2-terms, Br1-terms, otherwise_flipped}
+use Rattle.robinx.proofs.balances.PartTerms.{Ca1-otherwise, Br1-terms}
 use Rattle.robinx.proofs.parts.changing_terms.Goals as goal
+
+pub ca2_part-requires-clause-known : goal.ca2_part-requires-clause-known
+ca2_part-requires-clause-known c =
+    let g = c.args.schedule.now in
+    let games = c.of-games-in-Ca1 in
+    let as_ca2 : CountedGames → ℕ = (λ (counted : CountedGames).
+    deviation g (Ca2 counted.teams counted.side counted.opponents c.in-Ca1.slots c.in-Ca1.max)) in
+    let same : deviation g c.args.rule.now.body ≡ as_ca2 games.result = elim c.in-Ca1.is [
+      | inl is ↦
+          ap (deviation g) is.2 ∙
+          sym (Ca2-all g c.requires.round_robin is.1 (all_numbers g.teams) (has_all_numbers g.teams) is.0 c.in-Ca1.slots c.in-Ca1.max) ∙
+          sym (ap as_ca2 (games.ensures.value ∙ ap (counted_of g.teams) is.2))
+      | inr is ↦ ap (deviation g) is.3 ∙ sym (ap as_ca2 (games.ensures.value ∙ ap (counted_of g.teams) is.3))
+    ] in
+    subst (λ (n : ℕ). IfSome c.args.known (λ whole. whole ≡ n)) same c.requires.known
 
 pub returns-in-Ca1 : goal.returns-in-Ca1
 returns-in-Ca1 c =
-    let games = c.games_otherwise-games in
+    let g = c.args.schedule.now in
+    let games = c.of-games-in-Ca1 in
+    let terms = changing_terms g c.args.change.now.main c.args.change.now.rounds c.args.change.now.sides in
+    let as_ca2 : CountedGames → ℕ = (λ (counted : CountedGames).
+    terms (Ca2 counted.teams counted.side counted.opponents c.in-Ca1.slots c.in-Ca1.max)) in
+    c.ca2_part.ensures ∙
     elim c.in-Ca1.is [
       | inl is ↦
-          let all = all_numbers c.args.schedule.now.teams in
-          let members : (t : ℕ) → has games.result.teams t ≡ (has is.0 t && counts_otherwise c.args.schedule.now c.args.change.now.main
-          c.args.change.now.rounds c.args.change.now.sides all t) =
-          rw is.2 at games.ensures.members in
-          rw (rw is.2 at games.ensures.side, rw is.2 at games.ensures.opponents) at c.ca2.ensures ∙
-          Ca2-all c.args.schedule.now c.requires.round_robin is.1 all (has_all_numbers c.args.schedule.now.teams) games.result.teams
+          ap as_ca2 (games.ensures.value ∙ ap (counted_of g.teams) is.2) ∙
+          Ca1-otherwise g c.requires.round_robin c.args.change.now.main c.args.change.now.rounds c.args.change.now.sides is.0 is.1
           c.in-Ca1.slots c.in-Ca1.max ∙
-          Ca1-terms c.args.schedule.now c.args.change.now.main c.args.change.now.rounds c.args.change.now.sides is.0 is.1 c.in-Ca1.slots
-          c.in-Ca1.max games.result.teams
-          (λ t.
-          members t ∙
-          sym (otherwise_flipped c.args.schedule.now c.args.change.now.main c.args.change.now.rounds c.args.change.now.sides all is.0 t
-          (eq-eqb all all refl))) ∙
-          ap (changing_terms c.args.schedule.now c.args.change.now.main c.args.change.now.rounds c.args.change.now.sides) (sym is.2)
-      | inr is ↦
-          rw (rw is.3 at games.ensures.side, rw is.3 at games.ensures.opponents) at c.ca2.ensures ∙
-          Ca2-terms c.args.schedule.now c.args.change.now.main c.args.change.now.rounds c.args.change.now.sides is.0 is.1 is.2
-          c.in-Ca1.slots c.in-Ca1.max games.result.teams (rw is.3 at games.ensures.members) ∙
-          ap (changing_terms c.args.schedule.now c.args.change.now.main c.args.change.now.rounds c.args.change.now.sides) (sym is.3)
+          ap terms (sym is.2)
+      | inr is ↦ ap as_ca2 (games.ensures.value ∙ ap (counted_of g.teams) is.3) ∙ ap terms (sym is.3)
     ]
 
-pub returns-in-Br1 : goal.returns-in-Br1
-returns-in-Br1 c =
+pub returns-in-Some : goal.returns-in-Some
+returns-in-Some c =
+    let g = c.args.schedule.now in
+    let flipped = c.intersection-flipped in
+    let all : flipped.result ≡ c.in-Br1.teams = eqb-true _ _ (sym c.eq.ensures ∙ c.if-eq.true) in
+    rw c.in-Some.is at c.requires.known ∙ ap (deviation g) c.in-Br1.is ∙
+    ap (λ teams. deviation g (Br1 teams c.in-Br1.side c.in-Br1.slots c.in-Br1.most)) (sym all) ∙
+    Br1-terms g c.args.change.now.main c.args.change.now.rounds c.args.change.now.sides c.in-Br1.teams c.in-Br1.side
+    c.in-Br1.slots c.in-Br1.most flipped.result flipped.ensures.members ∙
+    ap (changing_terms g c.args.change.now.main c.args.change.now.rounds c.args.change.now.sides) (sym c.in-Br1.is)
+
+pub returns-in_default : goal.returns-in_default
+returns-in_default c =
+    let g = c.args.schedule.now in
+    let flipped = c.intersection-flipped in
     c.br1.ensures ∙
-    Br1-terms c.args.schedule.now c.args.change.now.main c.args.change.now.rounds c.args.change.now.sides c.in-Br1.teams c.in-Br1.side
-    c.in-Br1.slots c.in-Br1.most c.intersection.result c.intersection.ensures.members ∙
-    ap (changing_terms c.args.schedule.now c.args.change.now.main c.args.change.now.rounds c.args.change.now.sides) (sym c.in-Br1.is)
+    Br1-terms g c.args.change.now.main c.args.change.now.rounds c.args.change.now.sides c.in-Br1.teams c.in-Br1.side
+    c.in-Br1.slots c.in-Br1.most flipped.result flipped.ensures.members ∙
+    ap (changing_terms g c.args.change.now.main c.args.change.now.rounds c.args.change.now.sides) (sym c.in-Br1.is)
+
+pub returns-in-Br2 : goal.returns-in-Br2
+unfolding changing_terms has_touched_team
+returns-in-Br2 c =
+    let g = c.args.schedule.now in
+    c.deviation_if-in-Br2.ensures ∙
+    ap (λ (b : Bool). if b then deviation g c.args.rule.now.body else 0) c.intersects.ensures ∙
+    ap (λ (body : RuleBody). if has_touched_team c.in-Br2.teams (has c.args.change.now.sides) then deviation g body else 0) c.in-Br2.is ∙
+    ap (changing_terms g c.args.change.now.main c.args.change.now.rounds c.args.change.now.sides) (sym c.in-Br2.is)
