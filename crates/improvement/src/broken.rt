@@ -167,7 +167,7 @@ fn write_name<W: Sink>(
                 Piece::Text(b"rule "),
                 Piece::Number(u64::from(i) + 1),
                 Piece::Text(b" "),
-                Piece::Text(class_name(&league.rule(usize::from(i)).body)),
+                Piece::Text(class_name(&league.rule(usize::from(i)).body).as_bytes()),
                 Piece::Text(b" "),
             ],
         ),

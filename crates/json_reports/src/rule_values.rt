@@ -4,16 +4,16 @@ ghost use Rattle.std.specs.Prelude.{◌≡◌, ◌++◌, ◌<◌, slice_get, IfO
 ghost use Rattle.league.specs.League.{teams};
 ghost use Rattle.league.specs.RuleLimits.{IsBodyFor};
 ghost use Rattle.serde_json.specs.View.{view};
-ghost use Rattle.texts.specs.Classes.{class_name};
 ghost use Rattle.json_reports.specs.Rules.{kind_of, rule_data, rules_data, weight_data};
 
 use crate::breach_values::breaches_value;
 use crate::parts::push_value;
 use fixtures::Schedule;
-use league::{League, Rule, RuleBody, Weight};
+use league::{League, Rule, Weight};
 use robinx::deviation;
 use serde_json::{Value, json};
 use std::alloc::{AllocError, Global};
+use texts::class_name;
 
 pub(crate) fn rules_value(
     alloc: Global,
@@ -41,7 +41,7 @@ fn rule_value(alloc: Global, schedule: &Schedule, i: u64, rule: &Rule) -> Result
     let breaches = breaches_value(alloc, schedule, rule)?;
     json!(in alloc; {
         "breaches": breaches,
-        "class": class_word(&rule.body),
+        "class": class_name(&rule.body),
         "deviation": deviation(schedule, rule),
         "kind": kind_of(rule.weight),
         "rule": i + 1,
@@ -64,21 +64,5 @@ fn weight_value(weight: Weight) -> Value
     match weight {
         Weight::Hard => Value::Null,
         Weight::Soft(weight) => Value::from(weight as u64),
-    }
-}
-
-fn class_word(body: &RuleBody) -> &'static str
-    ensures { result.now ≡ class_name body.now }
-{
-    match body {
-        RuleBody::Ca1 { .. } => "CA1",
-        RuleBody::Ca2 { .. } => "CA2",
-        RuleBody::Ca3 { .. } => "CA3",
-        RuleBody::Ca4 { .. } => "CA4",
-        RuleBody::Ga1 { .. } => "GA1",
-        RuleBody::Br1 { .. } => "BR1",
-        RuleBody::Br2 { .. } => "BR2",
-        RuleBody::Se1 { .. } => "SE1",
-        RuleBody::Fa2 { .. } => "FA2",
     }
 }

@@ -322,7 +322,7 @@ fn push_rule_figures(
             Piece::Raw(row_head(broken)),
             Piece::Number(i + 1),
             Piece::Raw(b"</td><td>"),
-            Piece::Raw(class_name(&rule.body)),
+            Piece::Raw(class_name(&rule.body).as_bytes()),
             Piece::Raw(b"</td><td>"),
         ],
     )?;

@@ -6,18 +6,18 @@ ghost use Rattle.texts.specs.Classes.{class_name};
 use league::RuleBody;
 
 /// The name of a rule's class, as in a league.
-pub fn class_name(body: &RuleBody) -> &'static [u8]
+pub fn class_name(body: &RuleBody) -> &'static str
     ensures { result.now ≡ class_name body.now }
 {
     match body {
-        RuleBody::Ca1 { .. } => b"CA1",
-        RuleBody::Ca2 { .. } => b"CA2",
-        RuleBody::Ca3 { .. } => b"CA3",
-        RuleBody::Ca4 { .. } => b"CA4",
-        RuleBody::Ga1 { .. } => b"GA1",
-        RuleBody::Br1 { .. } => b"BR1",
-        RuleBody::Br2 { .. } => b"BR2",
-        RuleBody::Se1 { .. } => b"SE1",
-        RuleBody::Fa2 { .. } => b"FA2",
+        RuleBody::Ca1 { .. } => "CA1",
+        RuleBody::Ca2 { .. } => "CA2",
+        RuleBody::Ca3 { .. } => "CA3",
+        RuleBody::Ca4 { .. } => "CA4",
+        RuleBody::Ga1 { .. } => "GA1",
+        RuleBody::Br1 { .. } => "BR1",
+        RuleBody::Br2 { .. } => "BR2",
+        RuleBody::Se1 { .. } => "SE1",
+        RuleBody::Fa2 { .. } => "FA2",
     }
 }

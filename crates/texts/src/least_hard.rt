@@ -132,7 +132,7 @@ fn write_rule<W: Sink>(
         Piece::Text(b"rule "),
         Piece::Number(i + 1),
         Piece::Text(b" "),
-        Piece::Text(class_name(body)),
+        Piece::Text(class_name(body).as_bytes()),
         Piece::Text(b" "),
     ];
     write_part(out, before, name, count)
