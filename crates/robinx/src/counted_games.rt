@@ -7,9 +7,10 @@ ghost use Rattle.league.specs.Sets.{has, IsBelow};
 ghost use Rattle.league.specs.Sums.{count_where};
 ghost use Rattle.fixtures.specs.Games.{round_count, cell, is_home, IsDoubleRoundRobin};
 ghost use Rattle.robinx.specs.Deviations.{over, is_on_side, is_counted, games_of_team, games_in_round};
+ghost use Rattle.robinx.specs.Parts.{counts_otherwise};
 ghost use Rattle.robinx.specs.within.Walked.{season_games, counted_of};
 
-use crate::around::meets_one_of;
+use crate::around::{Around, meets_one_of, teams_otherwise};
 use fixtures::Schedule;
 use league::{Rule, RuleBody, Side, SlotSet, TeamSet};
 
@@ -65,20 +66,21 @@ impl CountedGames {
     }
 }
 
-/// At most so many games in some slots: in each of them, or in all of them together.
-#[derive(Clone, Copy, Drop)]
-pub(crate) struct Capacity {
-    pub slots: SlotSet,
-    pub each: bool,
-    pub most: u32,
-}
-
-impl Capacity {
-    pub(crate) fn new(slots: SlotSet, each: bool, most: u32) -> Self
-        ensures { result ≡ record { slots = slots; each = each; most = most } }
-    {
-        Capacity { slots, each, most }
-    }
+/// Of the games that count those of teams of which other games may count.
+pub(crate) fn games_otherwise(
+    schedule: &Schedule,
+    games: &CountedGames,
+    change: &Around,
+) -> CountedGames
+    requires { IsBelow schedule.now.teams games.now.teams }
+    ensures members { (t : ℕ) → has result.teams t ≡ (has games.now.teams t &&
+        counts_otherwise schedule.now change.now.main change.now.rounds change.now.sides games.now.opponents t) }
+    ensures side { result.side ≡ games.now.side }
+    ensures opponents { result.opponents ≡ games.now.opponents }
+    ensures below { IsBelow schedule.now.teams result.teams }
+{
+    let teams = teams_otherwise(schedule, change, games.teams, games.opponents);
+    CountedGames::new(teams, games.side, games.opponents)
 }
 
 /// By how much a count is over the most.

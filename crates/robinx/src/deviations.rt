@@ -5,12 +5,15 @@ ghost use Rattle.league.specs.Limits.{deviation_limit};
 ghost use Rattle.league.specs.RuleLimits.{IsBodyFor};
 ghost use Rattle.robinx.specs.Deviations.{deviation};
 
-use crate::break_rules::{br1, br2};
-use crate::capacity_rules::{ca2, ca3, ca4};
-use crate::counted_games::{Capacity, CountedGames};
-use crate::fairness_rules::{Fairness, fa2};
-use crate::game_rules::ga1;
-use crate::separation_rules::se1;
+use crate::classes::br1::br1;
+use crate::classes::br2::br2;
+use crate::classes::ca2::ca2;
+use crate::classes::ca3::ca3;
+use crate::classes::ca4::{Capacity, ca4};
+use crate::classes::fa2::{Fairness, fa2};
+use crate::classes::ga1::ga1;
+use crate::classes::se1::se1;
+use crate::counted_games::CountedGames;
 use fixtures::Schedule;
 use league::{Rule, RuleBody};
 

@@ -6,7 +6,7 @@ ghost use Rattle.fixtures.specs.Games.{round_count, IsDoubleRoundRobin};
 ghost use Rattle.league.specs.declared.rule.RuleBody.TheVariants as RuleBody;
 ghost use Rattle.robinx.specs.Deviations.{deviation};
 
-use crate::fairness_rules::Fairness;
+use crate::classes::fa2::Fairness;
 use crate::home_table::HomeTable;
 use fixtures::Schedule;
 use std::marker::Model;

@@ -10,7 +10,7 @@ ghost use Rattle.robinx.specs.Deviations.{over, deviation};
 ghost use Rattle.robinx.specs.within.HomeTables.{AreRowsOf, IsHomeTable, over_of_rows};
 ghost use Rattle.robinx.specs.within.Walked.{row_length, row_of, worst_apart};
 
-use crate::fairness_rules::Fairness;
+use crate::classes::fa2::Fairness;
 use crate::home_rows::{ROW, Row, TEAMS, flip, lower, mask_of, raise, worst_apart};
 use fixtures::Schedule;
 use league::{SlotSet, TeamSet};

@@ -6,12 +6,10 @@
 
 mod around;
 mod break_rules;
-mod capacity_rules;
+mod classes;
 mod counted_games;
 mod counted_rows;
 mod deviations;
-mod fairness_rules;
-mod game_rules;
 mod home_counts;
 mod home_rows;
 mod home_table;
@@ -19,7 +17,6 @@ mod laws;
 mod looked_past;
 mod parts;
 mod round_numbers;
-mod separation_rules;
 mod team_windows;
 mod touched_rules;
 mod windows;

@@ -1,5 +1,5 @@
 -- The terms of a deviation that a change can alter, as loops over some of the teams count them.
-use Rattle.std.proofs.Common.{◌≡◌, ℕ, ◌&&◌, ◌||◌, ◌==◌, not, Bool, true, false, refl, sym, ◌∙◌, ap}
+use Rattle.std.proofs.Common.{◌≡◌, ℕ, ◌&&◌, ◌||◌, ◌==◌, not, Bool, true, false, refl, sym, ◌∙◌, ap, ap₂}
 use Rattle.league.specs.Sets.{has, all_numbers}
 use Rattle.std.proofs.lemmas.Bool.{cond-true, cond-false, eq-eqb, false≢true}
 use Rattle.league.specs.Limits.{max_teams}
@@ -15,13 +15,6 @@ use Rattle.robinx.specs.Parts.{is_guest, meets_otherwise, counts_otherwise, over
 use Rattle.robinx.proofs.rows.AllTeams.{games_of_team-all}
 use Rattle.robinx.proofs.walks.Searches.{and_again}
 
-pub Ca1-terms : (g : Games) (main rounds sides teams : ℕ) (side : Side) (slots most both : ℕ) →
-    ((t : ℕ) → has both t ≡ (has teams t && has sides t)) →
-    deviation g (Ca1 both side slots most) ≡ changing_terms g main rounds sides (Ca1 teams side slots most)
-unfolding deviation changing_terms
-Ca1-terms g main rounds sides teams side slots most both members =
-    sum_where_same g.teams (has both) (λ t. has teams t && has sides t) _ _ (λ t in_t. members t) (λ t in_t is. refl)
-
 pub Ca2-terms : (g : Games) (main rounds sides teams : ℕ) (side : Side) (opponents slots most both : ℕ) →
     ((t : ℕ) → has both t ≡ (has teams t && counts_otherwise g main rounds sides opponents t)) →
     deviation g (Ca2 both side opponents slots most) ≡ changing_terms g main rounds sides (Ca2 teams side opponents slots most)
@@ -30,12 +23,13 @@ Ca2-terms g main rounds sides teams side opponents slots most both members =
     sum_where_same g.teams (has both) (λ t. has teams t && counts_otherwise g main rounds sides opponents t) _ _ (λ t in_t. members t)
     (λ t in_t is. refl)
 
-pub Ca3-terms : (g : Games) (main rounds sides teams : ℕ) (side : Side) (opponents window most both : ℕ) →
-    ((t : ℕ) → has both t ≡ (has teams t && counts_otherwise g main rounds sides opponents t)) →
-    sum_where g.teams (has both) (over_in_met_windows g side (has opponents) window most (has rounds)) ≡
+pub Ca3-terms : (g : Games) (main rounds sides teams : ℕ) (side on : Side) (opponents against window most both : ℕ) →
+    ((t : ℕ) → has both t ≡ (has teams t && counts_otherwise g main rounds sides opponents t)) → on ≡ side → against ≡ opponents →
+    sum_where g.teams (has both) (over_in_met_windows g on (has against) window most (has rounds)) ≡
     changing_terms g main rounds sides (Ca3 teams side opponents window most)
 unfolding changing_terms
-Ca3-terms g main rounds sides teams side opponents window most both members =
+Ca3-terms g main rounds sides teams side on opponents against window most both members same_side same =
+    ap₂ (λ (s : Side) (o : ℕ). sum_where g.teams (has both) (over_in_met_windows g s (has o) window most (has rounds))) same_side same ∙
     sum_where_same g.teams (has both) (λ t. has teams t && counts_otherwise g main rounds sides opponents t) _ _ (λ t in_t. members t)
     (λ t in_t is. refl)
 
