@@ -1,14 +1,14 @@
 //! A table of home games: how many each team has up to and with each round.
 
-ghost use Rattle.std.specs.Prelude.{◌≡◌, ℕ, ◌*◌, ◌<◌, ◌≤◌, ◌&&◌, nat_le, true, if◌then◌else◌};
-ghost use Rattle.league.specs.Limits.{max_teams, max_rounds};
+ghost use Rattle.std.specs.Prelude.{◌≡◌, ℕ, ◌*◌, ◌<◌, ◌≤◌, true};
+ghost use Rattle.league.specs.Limits.{max_teams};
 ghost use Rattle.league.specs.Sets.{has, IsBelow};
-ghost use Rattle.league.specs.Sums.{sum_below, sum_where};
+ghost use Rattle.league.specs.Sums.{sum_where};
 ghost use Rattle.league.specs.declared.rule.RuleBody.TheVariants as RuleBody;
 ghost use Rattle.fixtures.specs.Games.{round_count, IsDoubleRoundRobin};
 ghost use Rattle.robinx.specs.Deviations.{over, deviation};
 ghost use Rattle.robinx.specs.within.HomeTables.{AreRowsOf, IsHomeTable, over_of_rows};
-ghost use Rattle.robinx.specs.within.Walked.{row_length, row_of, worst_apart};
+ghost use Rattle.robinx.specs.within.Walked.{row_of, worst_apart};
 
 use crate::classes::fa2::Fairness;
 use crate::home_rows::{ROW, Row, TEAMS, flip, lower, mask_of, raise, worst_apart};

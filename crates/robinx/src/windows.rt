@@ -1,9 +1,9 @@
 //! Windows of consecutive rounds: how many rounds of a set each of them has.
 
-ghost use Rattle.std.specs.Prelude.{◌≡◌, ℕ, ◌+◌, ◌-◌, ◌*◌, ◌<◌, ◌≤◌, ◌&&◌, ◌==◌, not, nat_lt, true};
+ghost use Rattle.std.specs.Prelude.{◌≡◌, ℕ, ◌+◌, ◌-◌, ◌*◌, ◌<◌, ◌≤◌, ◌&&◌, ◌==◌, nat_lt};
 ghost use Rattle.league.specs.Limits.{max_rounds};
 ghost use Rattle.league.specs.Sets.{has, IsBelow};
-ghost use Rattle.league.specs.Sums.{sum_below, sum_where, count_where};
+ghost use Rattle.league.specs.Sums.{sum_where, count_where};
 ghost use Rattle.robinx.specs.Deviations.{over};
 ghost use Rattle.robinx.specs.within.Walked.{lacks};
 
