@@ -2,6 +2,7 @@
 pub mod HomeRows
 pub mod RowsByRounds
 pub mod HomeTables
+pub mod GapTables
 pub mod FullWindows
 pub mod AllTeams
 pub mod MetPairs

@@ -10,7 +10,7 @@ use Rattle.league.specs.declared.rule.RuleBody.{RuleBody}
 use Rattle.league.specs.declared.rule.RuleBody.TheVariants.{Ca1, Ca2, Ca3, Ca4, Ga1, Br1, Br2, Se1, Fa2}
 use Rattle.league.specs.declared.rule.Side.{Side}
 use Rattle.fixtures.specs.Games.{Games, round_count, round_of, cell}
-use Rattle.robinx.specs.Deviations.{over, games_of_team, games_in_window, games_in_round, breaks, rounds_between, deviation}
+use Rattle.robinx.specs.Deviations.{over, games_of_team, games_in_window, games_in_round, breaks, rounds_between, worst_gap, deviation}
 use Rattle.robinx.specs.LooksPast.{takes_all_or_none}
 use Rattle.robinx.specs.Touches.{has_touched_team, looks_at_round}
 
@@ -51,6 +51,11 @@ is_pair_with teams set i j = (has teams i && has teams j) && (has set i || has s
 unfoldable pub meet_in : Games → (ℕ → Bool) → ℕ → ℕ → Bool
 meet_in g rounds i j = rounds (round_of g i j) || rounds (round_of g j i)
 
+-- the worst gaps of the pairs of a rule's teams of which one is in the set
+unfoldable pub worst_gaps_with : Games → ℕ → ℕ → ℕ → ℕ → ℕ
+worst_gaps_with g teams slots most set =
+    sum_of_pairs g.teams (λ i j. if is_pair_with teams set i j then worst_gap g (has slots) most i j else 0)
+
 -- the terms of a deviation that a change can alter, if it can alter the deviation
 unfoldable pub changing_terms : Games → ℕ → ℕ → ℕ → RuleBody → ℕ
 changing_terms g main rounds sides (Ca1 teams side slots most) =
@@ -80,8 +85,7 @@ changing_terms g main rounds sides (Br2 teams slots most) =
 changing_terms g main rounds sides (Se1 teams least) =
     sum_of_pairs g.teams (λ i j.
     if is_pair_with teams main i j && meet_in g (has rounds) i j then over least (rounds_between g i j) else 0)
-changing_terms g main rounds sides (Fa2 teams slots most) =
-    if has_touched_team teams (has sides) then deviation g (Fa2 teams slots most) else 0
+changing_terms g main rounds sides (Fa2 teams slots most) = worst_gaps_with g teams slots most sides
 
 -- whether the slots lack one of the rounds
 unfoldable pub lacks_one : ℕ → (ℕ → Bool) → Bool

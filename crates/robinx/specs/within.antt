@@ -1,2 +1,3 @@
 pub mod HomeTables
+pub mod GapTables
 pub mod Walked

@@ -1,17 +1,17 @@
 //! A table of home games: how many each team has up to and with each round.
 
-ghost use Rattle.std.specs.Prelude.{◌≡◌, ℕ, ◌*◌, ◌<◌, ◌≤◌, true};
+ghost use Rattle.std.specs.Prelude.{◌≡◌, ℕ, ◌*◌, ◌<◌, ◌≤◌, ◌&&◌, ◌||◌, nat_lt, true, false, slice_index};
 ghost use Rattle.league.specs.Limits.{max_teams};
 ghost use Rattle.league.specs.Sets.{has, IsBelow};
 ghost use Rattle.league.specs.Sums.{sum_where};
-ghost use Rattle.league.specs.declared.rule.RuleBody.TheVariants as RuleBody;
 ghost use Rattle.fixtures.specs.Games.{round_count, IsDoubleRoundRobin};
-ghost use Rattle.robinx.specs.Deviations.{over, deviation};
+ghost use Rattle.robinx.specs.Deviations.{over};
+ghost use Rattle.robinx.specs.Parts.{worst_gaps_with};
 ghost use Rattle.robinx.specs.within.HomeTables.{AreRowsOf, IsHomeTable, over_of_rows};
-ghost use Rattle.robinx.specs.within.Walked.{row_of, worst_apart};
+ghost use Rattle.robinx.specs.within.Walked.{mask_in, row_of, worst_apart};
 
 use crate::classes::fa2::Fairness;
-use crate::home_rows::{ROW, Row, TEAMS, flip, lower, mask_of, raise, worst_apart};
+use crate::home_rows::{ROW, Row, TEAMS, flip, lower, raise, worst_apart};
 use fixtures::Schedule;
 use league::{SlotSet, TeamSet};
 
@@ -33,39 +33,55 @@ impl HomeTable {
         }
     }
 
-    /// The deviation of the schedule from the rule, once the rows of the rule's teams are the schedule's.
-    pub(crate) fn deviation(&mut self, schedule: &Schedule, fairness: &Fairness) -> u64
+    /// By how much the rule's teams are too far apart, of each two of which one is in the set, once their rows are the schedule's.
+    pub(crate) fn gaps_with(
+        &mut self,
+        schedule: &Schedule,
+        fairness: &Fairness,
+        mask: &Row,
+        set: TeamSet,
+    ) -> u64
         requires table { IsHomeTable self.old }
         requires round_robin { IsDoubleRoundRobin schedule.now }
         requires teams { IsBelow schedule.now.teams fairness.now.teams }
         requires slots { IsBelow (round_count schedule.now.teams) fairness.now.slots }
+        requires mask { (r : ℕ) → slice_index mask.now r ≡ mask_in fairness.now.slots r }
         ensures table { IsHomeTable self.new }
         ensures value { result ≡
-            deviation schedule.now (RuleBody.Fa2 fairness.now.teams fairness.now.slots fairness.now.most) }
+            worst_gaps_with schedule.now fairness.now.teams fairness.now.slots fairness.now.most set }
     {
         self.follow(schedule, fairness.teams);
-        let mask = mask_of(fairness.slots, schedule.rounds());
-        if self.spread(fairness.teams, &mask) <= fairness.most {
+        if self.spread(fairness.teams, mask) <= fairness.most {
             return 0;
         }
-        self.over(fairness.teams, &mask, fairness.most)
+        self.over(fairness.teams, set, mask, fairness.most)
     }
 
-    /// Makes the rows of the teams those of the schedule.
-    fn follow(&mut self, schedule: &Schedule, teams: TeamSet)
+    /// Makes the rows of the teams those of the schedule. Gives the teams whose rows it changes.
+    pub(crate) fn follow(&mut self, schedule: &Schedule, teams: TeamSet) -> TeamSet
         requires table { IsHomeTable self.old }
         requires round_robin { IsDoubleRoundRobin schedule.now }
         requires teams { IsBelow schedule.now.teams teams }
         ensures table { IsHomeTable self.new }
         ensures rows { AreRowsOf schedule.now (has teams) self.new.rows }
+        ensures others { (t : ℕ) → has result t ≡ false → row_of self.new.rows t ≡ row_of self.old.rows t }
     {
+        let mut flipped = TeamSet::empty();
         for team in teams {
             let place = usize::from(team);
             let homes = schedule.home_rounds(team);
-            let changed = self.homes[place].symmetric_difference(homes);
-            flip(&mut self.rows[place], changed, homes);
-            self.homes[place] = homes;
+            let kept = self.homes[place];
+            if kept != homes {
+                flip(
+                    &mut self.rows[place],
+                    kept.symmetric_difference(homes),
+                    homes,
+                );
+                self.homes[place] = homes;
+                flipped = flipped.with(team);
+            }
         }
+        flipped
     }
 
     /// By how much the highest and the lowest number of the teams' rows are apart in a round of the mask: no two of the teams are further apart.
@@ -83,14 +99,14 @@ impl HomeTable {
         worst_apart(mask, &highest, &lowest).into()
     }
 
-    /// Adds up by how much the rows of each two of the teams are apart, over `most`.
-    fn over(&self, teams: TeamSet, mask: &Row, most: u32) -> u64
-        ensures { result ≡ sum_where max_teams (has teams) (over_of_rows self.now.rows mask.now teams most) }
+    /// Adds up by how much the rows are apart, over `most`, of each two of the teams of which one is in the set.
+    fn over(&self, teams: TeamSet, set: TeamSet, mask: &Row, most: u32) -> u64
+        ensures { result ≡ sum_where max_teams (has teams) (over_of_rows self.now.rows mask.now teams set most) }
     {
         let mut total = 0;
         for team in teams {
-            let earlier = teams.intersection(TeamSet::below(team));
-            total += self.over_with(earlier, mask, most, team);
+            let others = lower_with(teams, set, team);
+            total += self.over_with(others, mask, most, team);
         }
         total
     }
@@ -110,5 +126,18 @@ impl HomeTable {
             total += u64::from(apart.saturating_sub(most));
         }
         total
+    }
+}
+
+/// Of the teams lower than this one those of which, or of which this one, is in the set.
+pub(crate) fn lower_with(teams: TeamSet, set: TeamSet, team: u8) -> TeamSet
+    requires { team < max_teams }
+    ensures { (o : ℕ) → has result o ≡ ((has teams o && nat_lt o team) && (has set o || has set team)) }
+{
+    let lower = teams.intersection(TeamSet::below(team));
+    if set.has(team) {
+        lower
+    } else {
+        lower.intersection(set)
     }
 }

@@ -12,7 +12,7 @@ use crate::classes::br1::br1;
 use crate::classes::ca2::ca2_part;
 use crate::classes::ca3::ca3_part;
 use crate::classes::ca4::{Capacity, ca4_part};
-use crate::classes::fa2::{Fairness, fa2_part};
+use crate::classes::fa2::Fairness;
 use crate::classes::ga1::has_moved_game;
 use crate::classes::se1::se1_part;
 use crate::counted_games::CountedGames;
@@ -112,7 +112,7 @@ fn changing_terms(
         RuleBody::Se1 { teams, min } => se1_part(schedule, *teams, change, *min),
         RuleBody::Fa2 { teams, slots, most } => {
             let fairness = Fairness::new(*teams, *slots, *most);
-            fa2_part(schedule, change, &fairness, known, counts)
+            counts.gaps_with(schedule, &fairness, change.sides, known.is_some())
         }
     }
 }

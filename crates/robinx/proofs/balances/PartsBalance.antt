@@ -1,12 +1,12 @@
 -- What a change around some teams adds to the part of a deviation, it adds to the whole.
 use Rattle.std.proofs.Common.{◌≡◌, ℕ, ◌+◌, ◌-◌, ◌<◌, ◌≤◌, ◌&&◌, ◌||◌, ◌⊎◌, ◌==◌, not, Bool, true, false, List, [], ◌∷◌, inl, inr, refl, sym}
-use Rattle.std.proofs.Common.{◌∙◌, if◌then◌else◌, ap, arith}
+use Rattle.std.proofs.Common.{◌∙◌, if◌then◌else◌, ap, subst, arith}
 use Rattle.std.specs.List.{AllByRecursion, list_any}
 use Rattle.std.proofs.lemmas.Bool.{cases_Bool, cases_eq, cases_lt, cond-true, cond-false, eq-eqb, ne_eqb, lt-ltb, false≢true}
 use Rattle.std.proofs.lemmas.Bool.{and_cases, or_parts, not_from_false, not-false, not-true}
 use Rattle.league.specs.Limits.{max_teams}
 use Rattle.league.specs.Sets.{has, all_numbers, IsBelow}
-use Rattle.league.specs.Sums.{any_below}
+use Rattle.league.specs.Sums.{any_below, sum_of_pairs}
 use Rattle.league.specs.Games.{IsGameFor}
 use Rattle.league.specs.RuleLimits.{IsBodyFor}
 use Rattle.league.specs.declared.rule.Pairing.{Pairing}
@@ -14,22 +14,22 @@ use Rattle.league.specs.declared.rule.RuleBody.{RuleBody}
 use Rattle.league.specs.declared.rule.RuleBody.TheVariants.{Ca1, Ca2, Ca3, Ca4, Ga1, Br1, Br2, Se1, Fa2}
 use Rattle.league.specs.declared.rule.Side.{Side}
 use Rattle.league.specs.declared.rule.Side.TheVariants.{Any}
-use Rattle.league.proofs.ForCallers.{any_below_fails, any_below_same, count_where_same, has_beyond, has_all_numbers}
+use Rattle.league.proofs.ForCallers.{any_below_fails, any_below_same, count_where_same, has_beyond, has_all_numbers, sum_of_pairs_balance}
 use Rattle.fixtures.specs.declared.game.Cell.{Cell}
 use Rattle.fixtures.specs.Games.{Games, round_count, round_of, cell, is_home, IsDoubleRoundRobin}
 use Rattle.fixtures.specs.Changes.{DiffersOnlyIn, DiffersOnlyAt, DiffersOnlyAround, box}
 use Rattle.fixtures.proofs.ForCallers.{is_cell, round_of_kept_around}
 use Rattle.robinx.specs.Deviations.{over, is_on_side, is_counted, games_of_team, games_in_window, games_in_round, breaks, rounds_between}
-use Rattle.robinx.specs.Deviations.{over_in_windows, short_pairs, deviation}
+use Rattle.robinx.specs.Deviations.{over_in_windows, short_pairs, worst_gap, worst_gaps, deviation}
 use Rattle.robinx.specs.LooksPast.{takes_all_or_none}
 use Rattle.robinx.specs.Touches.{has_touched_team}
 use Rattle.robinx.specs.Parts.{is_guest, meets_otherwise, counts_otherwise, has_moved_game, meets_window, over_in_met_windows}
-use Rattle.robinx.specs.Parts.{changing_terms, can_alter, deviation_part}
+use Rattle.robinx.specs.Parts.{is_pair_with, worst_gaps_with, changing_terms, can_alter, deviation_part}
 use Rattle.robinx.proofs.unaltered.LookedPast.{TakesAllOrNone-tested}
 use Rattle.robinx.proofs.rows.MetPairs.{short_pairs_balance}
 use Rattle.robinx.proofs.balances.PartSums.{where_balance, whole_terms_balance, whole_balance, part_balance}
 use Rattle.robinx.proofs.unaltered.SeesSame.{SeesSame, SeesSameBreaks, SeesSameUntil, games_of_team-same, games_in_round-same}
-use Rattle.robinx.proofs.unaltered.SeesSame.{over_in_windows-same, breaks-same, gaps-same, together-same, each-same}
+use Rattle.robinx.proofs.unaltered.SeesSame.{over_in_windows-same, breaks-same, worst_gap-same, together-same, each-same}
 use Rattle.robinx.proofs.unaltered.SeesSame.{breaks_of_all-same, listed_games_in-same}
 use Rattle.robinx.proofs.unaltered.Untouched.{other_fails, game_stays}
 use Rattle.robinx.proofs.unaltered.ToldApart.{SeesSame-outside, stays_inside, unaltered_deviation}
@@ -262,7 +262,7 @@ module _ (g g' : Games) (rr : IsDoubleRoundRobin g) (rr' : IsDoubleRoundRobin g'
 
   terms_balance : (body : RuleBody) → IsBodyFor g.teams body →
       deviation g' body + changing_terms g main rounds sides body ≡ deviation g body + changing_terms g' main rounds sides body
-  unfolding deviation changing_terms short_pairs rounds_between
+  unfolding deviation changing_terms short_pairs rounds_between worst_gaps worst_gaps_with
   terms_balance (Ca1 teams side slots most) is =
       whole_terms_balance g.teams g'.teams (has teams) (has sides) (has sides)
       (λ t. over (games_of_team g' side (λ _. true) (has slots) t) most) (λ t. over (games_of_team g side (λ _. true) (has slots) t) most)
@@ -330,10 +330,23 @@ module _ (g g' : Games) (rr : IsDoubleRoundRobin g) (rr' : IsDoubleRoundRobin g'
       (none_flips g g' differs.same_size sides rounds flipped teams rr.most none)) Any most)
   terms_balance (Se1 teams least) is = short_pairs_balance g g' rr rr' main rounds differs teams least
   terms_balance (Fa2 teams slots most) is =
-      whole_balance (has_touched_team teams (has sides)) (has_touched_team teams (has sides)) _ _ refl
-      (λ none. gaps-same g g' (has teams) (has slots)
-      (SeesSameUntil-unflipped g g' differs.same_size sides rounds flipped (has teams) (has slots)
-      (none_flips g g' differs.same_size sides rounds flipped teams rr.most none)) most)
+      sized (λ n. sum_of_pairs n (λ i j. if has teams i && has teams j then worst_gap g' (has slots) most i j else 0))
+      (λ n. sum_of_pairs n (λ i j. if is_pair_with teams sides i j then worst_gap g' (has slots) most i j else 0)) _ _
+      (sum_of_pairs_balance g.teams _ _ _ _
+      (λ i j lower in_j. at (has teams i && has teams j) (has sides i || has sides j) _ _
+      (λ out.
+      let parts = or_parts (has sides i) (has sides j) out in
+      worst_gap-same g g' (λ t. not (has sides t)) (has slots)
+      (SeesSameUntil-unflipped g g' differs.same_size sides rounds flipped (λ t. not (has sides t)) (has slots)
+      (λ t in_t is. not-true _ is)) most i j (omega arith) in_j (not_from_false _ parts.0) (not_from_false _ parts.1))))
+    where
+      sized : (whole part : ℕ → ℕ) (x y : ℕ) → whole g.teams + x ≡ y + part g.teams → whole g'.teams + x ≡ y + part g'.teams
+      sized whole part x y same = subst (λ (n : ℕ). whole n + x ≡ y + part n) (sym differs.same_size) same
+
+      at : (both one : Bool) (new old : ℕ) → (one ≡ false → new ≡ old) →
+          (if both then new else 0) + (if both && one then old else 0) ≡ (if both then old else 0) + (if both && one then new else 0)
+      at true one new old stays = whole_balance one one new old refl stays
+      at false one new old stays = refl
 
   pub deviation_balance : (body : RuleBody) → IsBodyFor g.teams body →
       deviation g' body + deviation_part g main rounds sides body ≡ deviation g body + deviation_part g' main rounds sides body

@@ -10,9 +10,9 @@ use Rattle.league.specs.declared.rule.Side.{Side}
 use Rattle.league.proofs.ForCallers.{sum_below_le_each}
 use Rattle.fixtures.specs.Games.{Games, round_count}
 use Rattle.robinx.specs.Deviations.{over, games_of_team, games_in_window, games_in_round, breaks, rounds_between, over_in_windows}
-use Rattle.robinx.specs.Deviations.{short_pairs, deviation}
-use Rattle.robinx.specs.Parts.{counts_otherwise, over_in_met_windows, meets_window, is_pair_with, meet_in, changing_terms, can_alter}
-use Rattle.robinx.specs.Parts.{deviation_part}
+use Rattle.robinx.specs.Deviations.{short_pairs, worst_gap, worst_gaps, deviation}
+use Rattle.robinx.specs.Parts.{counts_otherwise, over_in_met_windows, meets_window, is_pair_with, meet_in, worst_gaps_with}
+use Rattle.robinx.specs.Parts.{changing_terms, can_alter, deviation_part}
 use Rattle.robinx.proofs.limits.Limits.{deviation_below}
 
 fewer : (test inside : Bool) (x y : ℕ) → x ≤ y → (if test && inside then x else 0) ≤ (if test then y else 0)
@@ -44,7 +44,7 @@ windows_le g side opponents window most rounds t =
     (λ first. over (games_in_window g side opponents window t first) most)
 
 terms_le : (g : Games) (main rounds sides : ℕ) (body : RuleBody) → changing_terms g main rounds sides body ≤ deviation g body
-unfolding deviation changing_terms short_pairs
+unfolding deviation changing_terms short_pairs worst_gaps worst_gaps_with
 terms_le g main rounds sides (Ca1 teams side slots most) =
     some_of g.teams (has teams) (has sides) (λ t. over (games_of_team g side (λ _. true) (has slots) t) most)
 terms_le g main rounds sides (Ca2 teams1 side teams2 slots most) =
@@ -71,7 +71,12 @@ terms_le g main rounds sides (Se1 teams least) =
       some_of j (λ i. is_pair_with teams main i j) (λ i. meet_in g (has rounds) i j) (λ i. over least (rounds_between g i j)),
       some_of j (λ i. has teams i && has teams j) (λ i. has main i || has main j) (λ i. over least (rounds_between g i j)),
     ))
-terms_le g main rounds sides (Fa2 teams slots most) = or_none _ _ _ (le_self _)
+terms_le g main rounds sides (Fa2 teams slots most) =
+    sum_below_le_each g.teams
+    (λ j. sum_below j (λ i. if is_pair_with teams sides i j then worst_gap g (has slots) most i j else 0))
+    (λ j. sum_below j (λ i. if has teams i && has teams j then worst_gap g (has slots) most i j else 0))
+    (λ j below.
+    some_of j (λ i. has teams i && has teams j) (λ i. has sides i || has sides j) (λ i. worst_gap g (has slots) most i j))
 
 pub terms_below : (g : Games) (main rounds sides : ℕ) (body : RuleBody) → g.teams ≤ max_teams → IsBodyFor g.teams body →
     changing_terms g main rounds sides body < deviation_limit

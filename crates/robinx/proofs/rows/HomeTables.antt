@@ -1,19 +1,21 @@
 -- Tables of home games: how one follows a schedule, and what its rows tell of FA2.
-use Rattle.std.proofs.Common.{◌≡◌, ◌≢◌, ℕ, ◌+◌, ◌<◌, ◌≤◌, ◌&&◌, not, nat_lt, Bool, true, false, if◌then◌else◌, min, max}
+use Rattle.std.proofs.Common.{◌≡◌, ◌≢◌, ℕ, ◌+◌, ◌<◌, ◌≤◌, ◌&&◌, ◌||◌, ◌==◌, not, nat_lt, Bool, true, false, if◌then◌else◌, min, max}
 use Rattle.std.proofs.Common.{List, [], get_or, refl, sym, ◌∙◌, ap, subst, inl, inr, arith, get_or-set_other}
 use Rattle.std.proofs.Math.ListN.{set, replicate}
 use Rattle.std.proofs.lemmas.Grind.{get_or-set_at, get_or_default_zero}
 use Rattle.std.proofs.lemmas.List.{get_or-replicate, length-set}
-use Rattle.std.proofs.lemmas.Bool.{cases_eq, cond-false, false≢true, le-ltb, lt-ltb}
+use Rattle.std.proofs.lemmas.Bool.{cases_eq, cond-false, eq-eqb, false≢true, le-ltb, lt-ltb, or_parts}
 use Rattle.std.proofs.Math.Bool.{and-true}
 use Rattle.league.specs.Limits.{max_teams}
 use Rattle.league.specs.Sets.{has, IsBelow}
 use Rattle.league.specs.within.Sets.{IsWithoutLowest}
-use Rattle.league.specs.Sums.{sum_where}
+use Rattle.league.specs.Sums.{sum_below, sum_where}
 use Rattle.league.specs.declared.rule.RuleBody.TheVariants.{Fa2}
 use Rattle.league.proofs.ForCallers.{count_where_none, has_empty, others_kept, has_beyond, sum_below_past, sum_below_same, sum_below_zero}
+use Rattle.league.proofs.ForCallers.{sum_of_pairs_same}
 use Rattle.fixtures.specs.Games.{Games, round_count, is_home, IsDoubleRoundRobin}
 use Rattle.robinx.specs.Deviations.{over, deviation, home_games, worst_gap, worst_gaps}
+use Rattle.robinx.specs.Parts.{is_pair_with, worst_gaps_with}
 use Rattle.robinx.specs.within.HomeTables.{AreRowsOf, IsHomeRow, IsHomeTable, is_home_with, over_of_rows}
 use Rattle.robinx.specs.within.Walked.{mask_in, row_of, row_length, worst_apart}
 use Rattle.robinx.specs.declared.home_table.HomeTable.{HomeTable}
@@ -52,29 +54,57 @@ row_to_flip table team row default homes changed is here in_table members =
     (λ r. members r ∙ ap (λ (s : ℕ). if has homes r then not (has s r) else has s r) old))
     (is.rows row (omega (arith, here, in_table)))
 
--- those teams that aren't left have the rows of a schedule
-pub record HasFollowed (g : Games) (table : HomeTable) (teams left : ℕ) : Type 0 where
+-- Those teams that aren't left have the rows of a schedule. Those that haven't flipped have the rows that they had before.
+pub record HasFollowed (g : Games) (before : List (List ℕ)) (table : HomeTable) (teams left flipped : ℕ) : Type 0 where
   pub below : IsBelow g.teams left
   pub is : IsHomeTable table
   pub rows : (t r : ℕ) → has teams t ≡ true → has left t ≡ false → r < round_count g.teams →
       get_or (row_of table.rows t) r 0 ≡ home_games g t r
+  pub others : (t : ℕ) → has flipped t ≡ false → row_of table.rows t ≡ row_of before t
 
-pub followed_none : (g : Games) (table : HomeTable) (teams left : ℕ) → IsHomeTable table → IsBelow g.teams teams → left ≡ teams →
-    HasFollowed g table teams left
-followed_none g table teams left is below whole = record {
+pub followed_none : (g : Games) (table : HomeTable) (teams left flipped : ℕ) → IsHomeTable table → IsBelow g.teams teams → left ≡ teams →
+    HasFollowed g table.rows table teams left flipped
+followed_none g table teams left flipped is below whole = record {
   below = rw whole below;
   is = is;
   rows = λ t r in_teams gone in_season. absurd (false≢true (sym gone ∙ ap (λ s. has s t) whole ∙ in_teams));
+  others = λ t stays. refl;
 }
 
-pub followed_all : (g : Games) (table : HomeTable) (teams left : ℕ) → left ≡ 0 → HasFollowed g table teams left →
-    AreRowsOf g (has teams) table.rows
-followed_all g table teams left none so_far =
+pub followed_all : (g : Games) (before : List (List ℕ)) (table : HomeTable) (teams left flipped : ℕ) → left ≡ 0 →
+    HasFollowed g before table teams left flipped → AreRowsOf g (has teams) table.rows
+followed_all g before table teams left flipped none so_far =
     λ t r in_teams in_season. so_far.rows t r in_teams (ap (λ s. has s t) none ∙ has_empty t) in_season
 
+-- a team that hasn't flipped
+pub followed_same : (g : Games) (before : List (List ℕ)) (table : HomeTable) (teams left flipped team rest row default homes : ℕ) →
+    g.teams ≤ max_teams → HasFollowed g before table teams left flipped → IsWithoutLowest left team rest → row ≡ team →
+    team < g.teams → ((r : ℕ) → has homes r ≡ (nat_lt r (round_count g.teams) && is_home g team r)) →
+    get_or table.homes row default ≡ homes → HasFollowed g before table teams rest flipped
+followed_same g before table teams left flipped team rest row default homes forty so_far taken here in_games members same_homes = record {
+  below = omega (arith, so_far.below, taken.fewer);
+  is = so_far.is;
+  rows = λ t r in_teams gone in_season. elim (cases_eq t team) [
+    | inl same ↦
+        ap (λ (k : ℕ). get_or (row_of table.rows k) r 0) same ∙
+        row_of_schedule g team homes (row_of table.rows team) (omega (arith, forty)) members
+        (subst (λ (h : ℕ). IsHomeRow (has h) (row_of table.rows team)) (sym is_homes ∙ same_homes)
+        (so_far.is.rows team (omega (arith, in_games, forty)))) r in_season ∙
+        ap (λ (k : ℕ). home_games g k r) (sym same)
+    | inr apart ↦ so_far.rows t r in_teams (sym (others_kept left team rest t taken apart) ∙ gone) in_season
+  ];
+  others = so_far.others;
+}
+  where
+    is_homes : get_or table.homes row default ≡ get_or table.homes team 0
+    is_homes =
+        get_or_default_zero table.homes row default (omega (arith, here, in_games, forty, so_far.is.homes_len)) ∙
+        ap (λ (k : ℕ). get_or table.homes k 0) here
+
 -- one team's row is flipped
-module _ (g : Games) (table : HomeTable) (teams left team rest row homes : ℕ) (flipped : List ℕ) (forty : g.teams ≤ max_teams)
-    (so_far : HasFollowed g table teams left) (taken : IsWithoutLowest left team rest) (here : row ≡ team) (in_games : team < g.teams)
+module _ (g : Games) (before : List (List ℕ)) (table : HomeTable) (teams left some more team rest row homes : ℕ) (flipped : List ℕ)
+    (forty : g.teams ≤ max_teams) (so_far : HasFollowed g before table teams left some)
+    (now : (t : ℕ) → has more t ≡ (t == team || has some t)) (taken : IsWithoutLowest left team rest) (here : row ≡ team) (in_games : team < g.teams)
     (members : (r : ℕ) → has homes r ≡ (nat_lt r (round_count g.teams) && is_home g team r)) (row_is : IsHomeRow (has homes) flipped) where
   in_table : team < max_teams
   in_table = omega (arith, in_games, forty)
@@ -102,7 +132,7 @@ module _ (g : Games) (table : HomeTable) (teams left team rest row homes : ℕ) 
         (subst (IsHomeRow (has (get_or table.homes t 0))) (sym (row_kept t apart)) (so_far.is.rows t below))
   ]
 
-  pub followed_more : HasFollowed g (record { homes = set table.homes row homes; rows = set table.rows row flipped }) teams rest
+  pub followed_more : HasFollowed g before (record { homes = set table.homes row homes; rows = set table.rows row flipped }) teams rest more
   followed_more = record {
     below = omega (arith, so_far.below, taken.fewer);
     is = record {
@@ -118,6 +148,9 @@ module _ (g : Games) (table : HomeTable) (teams left team rest row homes : ℕ) 
           ap (λ (l : List ℕ). get_or l r 0) (row_kept t apart) ∙
           so_far.rows t r in_teams (sym (others_kept left team rest t taken apart) ∙ gone) in_season
     ];
+    others = λ t stays.
+        let parts = or_parts (t == team) (has some t) (sym (now t) ∙ stays) in
+        row_kept t (λ same. false≢true (sym parts.0 ∙ eq-eqb t team same)) ∙ so_far.others t parts.1;
   }
 
 -- the rows of those teams that aren't left lie between two rows
@@ -163,74 +196,95 @@ none_further rows mask lowest highest teams left none so_far t o in_t in_o =
     let of_o = so_far.between o r in_o (ap (λ s. has s o) none ∙ has_empty o) in_row in
     omega (arith, of_t.0, of_t.1, of_o.0, of_o.1))
 
--- the sum over the lower ones of a set
-pub sum_of_lower : (team teams lower : ℕ) (f : ℕ → ℕ) → team ≤ max_teams → ((o : ℕ) → has lower o ≡ (has teams o && nat_lt o team)) →
-    sum_where max_teams (has lower) f ≡ sum_where team (has teams) f
-sum_of_lower team teams lower f within members =
+-- the sum over the lower ones of some teams of which, or of which the team, is in a set
+pub sum_of_lower : (team teams set lower : ℕ) (f : ℕ → ℕ) → team ≤ max_teams →
+    ((o : ℕ) → has lower o ≡ ((has teams o && nat_lt o team) && (has set o || has set team))) →
+    sum_where max_teams (has lower) f ≡ sum_where team (λ o. has teams o && (has set o || has set team)) f
+sum_of_lower team teams set lower f within members =
     sum_below_past team max_teams (λ o. if has lower o then f o else 0) within
     (λ o past below.
     cond-false {A = ℕ} (has lower o) (f o) 0
-    (members o ∙ ap (λ b. has teams o && b) (le-ltb o team past) ∙ neither (has teams o))) ∙
+    (members o ∙ ap (λ b. (has teams o && b) && (has set o || has set team)) (le-ltb o team past) ∙ neither (has teams o) _)) ∙
     sum_below_same team _ _
     (λ o below.
-    ap (λ (b : Bool). if b then f o else 0) (members o ∙ ap (λ b. has teams o && b) (lt-ltb o team below) ∙ and-true (has teams o)))
+    ap (λ (b : Bool). if b then f o else 0)
+    (members o ∙ ap (λ b. (has teams o && b) && (has set o || has set team)) (lt-ltb o team below) ∙
+    ap (λ b. b && (has set o || has set team)) (and-true (has teams o))))
   where
-    neither : (b : Bool) → (b && false) ≡ false
-    neither true = refl
-    neither false = refl
+    neither : (b c : Bool) → ((b && false) && c) ≡ false
+    neither true c = refl
+    neither false c = refl
+
+-- all pairs of a rule's teams are those of which one is one of its teams
+pub all_gaps : (g : Games) (teams slots most : ℕ) → worst_gaps_with g teams slots most teams ≡ deviation g (Fa2 teams slots most)
+unfolding deviation worst_gaps worst_gaps_with
+all_gaps g teams slots most =
+    sum_of_pairs_same g.teams _ _ (λ i j lower in_j. at (has teams i) (has teams j) (worst_gap g (has slots) most i j))
+  where
+    at : (a b : Bool) (x : ℕ) → (if (a && b) && (a || b) then x else 0) ≡ (if a && b then x else 0)
+    at true true x = refl
+    at true false x = refl
+    at false b x = refl
+
+-- sums of a number of each pair, added up at the higher team
+module _ (g : Games) (teams set slots most : ℕ) (pair : ℕ → ℕ → ℕ) (rr : IsDoubleRoundRobin g) (of_teams : IsBelow g.teams teams)
+    (are : (o t : ℕ) → o < t → has teams o ≡ true → has teams t ≡ true → over (pair o t) most ≡ worst_gap g (has slots) most o t) where
+  abbrev of_lower : ℕ → ℕ
+  of_lower t = sum_where t (λ o. has teams o && (has set o || has set t)) (λ o. over (pair o t) most)
+
+  abbrev gaps_of : ℕ → ℕ
+  gaps_of t = sum_below t (λ o. if is_pair_with teams set o t then worst_gap g (has slots) most o t else 0)
+
+  same_of : (t : ℕ) (in_t : Bool) → has teams t ≡ in_t → (if has teams t then of_lower t else 0) ≡ gaps_of t
+  same_of t true is =
+      rw is (sum_below_same t _ _ (λ o lower. at o (has set o || has set t) lower (has teams o) refl))
+    where
+      at : (o : ℕ) (one : Bool) → o < t → (a : Bool) → has teams o ≡ a →
+          (if has teams o && one then over (pair o t) most else 0) ≡
+          (if (has teams o && true) && one then worst_gap g (has slots) most o t else 0)
+      at o true lower true in_o = rw in_o (are o t lower in_o is)
+      at o false lower true in_o = rw in_o refl
+      at o one lower false out = rw out refl
+  same_of t false out = rw out (sym (sum_below_zero t _ (λ o lower. none (has teams o) _ _)))
+    where
+      none : (a b : Bool) (x : ℕ) → (if (a && false) && b then x else 0) ≡ 0
+      none true b x = refl
+      none false b x = refl
+
+  pub told_by_pairs : sum_where max_teams (has teams) (λ t. sum_where t (λ o. has teams o && (has set o || has set t))
+      (λ o. over (pair o t) most)) ≡ worst_gaps_with g teams slots most set
+  unfolding worst_gaps_with
+  told_by_pairs =
+      sum_below_past g.teams max_teams (λ t. if has teams t then of_lower t else 0) rr.most
+      (λ t past below. rw (has_beyond g.teams teams t of_teams past) refl) ∙
+      sum_below_same g.teams _ _ (λ t below. same_of t (has teams t) refl)
 
 -- what the rows of a schedule tell
-module _ (g : Games) (rows : List (List ℕ)) (mask : List ℕ) (teams slots most : ℕ) (rr : IsDoubleRoundRobin g)
+module _ (g : Games) (rows : List (List ℕ)) (mask : List ℕ) (teams set slots most : ℕ) (rr : IsDoubleRoundRobin g)
     (of_teams : IsBelow g.teams teams) (of_slots : IsBelow (round_count g.teams) slots) (are : AreRowsOf g (has teams) rows)
     (masks : (r : ℕ) → get_or mask r 0 ≡ mask_in slots r) where
-  one_gap : (t o : ℕ) → has teams t ≡ true → has teams o ≡ true →
+  pub one_gap : (o t : ℕ) → o < t → has teams o ≡ true → has teams t ≡ true →
       over (worst_apart mask (row_of rows o) (row_of rows t)) most ≡ worst_gap g (has slots) most o t
-  one_gap t o in_t in_o =
+  one_gap o t lower in_o in_t =
       worst_gap_of_rows g most o t slots mask (row_of rows o) (row_of rows t) (omega (arith, rr.most)) of_slots (λ r. are o r in_o)
       (λ r. are t r in_t) masks
 
-  gaps_of : (t : ℕ) → has teams t ≡ true → over_of_rows rows mask teams most t ≡ worst_gaps g (has teams) (has slots) most t
-  unfolding worst_gaps
-  gaps_of t in_t = sum_below_same t _ _ (λ o lower. at o (has teams o) refl)
-    where
-      at : (o : ℕ) (a : Bool) → has teams o ≡ a →
-          (if has teams o then over (worst_apart mask (row_of rows o) (row_of rows t)) most else 0) ≡
-          (if has teams o && has teams t then worst_gap g (has slots) most o t else 0)
-      at o true in_o = rw (in_o, in_t) (one_gap t o in_t in_o)
-      at o false out = rw out refl
-
-  none_of : (t : ℕ) → has teams t ≡ false → worst_gaps g (has teams) (has slots) most t ≡ 0
-  unfolding worst_gaps
-  none_of t out = sum_below_zero t _ (λ o lower. at (worst_gap g (has slots) most o t) (has teams o))
-    where
-      at : (x : ℕ) (a : Bool) → (if a && has teams t then x else 0) ≡ 0
-      at x true = rw out refl
-      at x false = refl
-
-  pub told_by_rows : sum_where max_teams (has teams) (over_of_rows rows mask teams most) ≡ deviation g (Fa2 teams slots most)
-  unfolding deviation
-  told_by_rows =
-      sum_below_past g.teams max_teams (λ t. if has teams t then over_of_rows rows mask teams most t else 0) rr.most
-      (λ t past below. rw (has_beyond g.teams teams t of_teams past) refl) ∙
-      sum_below_same g.teams _ _ (λ t below. at t (has teams t) refl)
-    where
-      at : (t : ℕ) (a : Bool) → has teams t ≡ a →
-          (if has teams t then over_of_rows rows mask teams most t else 0) ≡ worst_gaps g (has teams) (has slots) most t
-      at t true in_t = rw in_t (gaps_of t in_t)
-      at t false out = rw out (sym (none_of t out))
+  pub told_by_rows : sum_where max_teams (has teams) (over_of_rows rows mask teams set most) ≡ worst_gaps_with g teams slots most set
+  told_by_rows = told_by_pairs g teams set slots most (λ o t. worst_apart mask (row_of rows o) (row_of rows t)) rr of_teams one_gap
 
   -- nothing is over if the teams are near
   pub none_over : (spread : ℕ) → spread ≤ most →
       ((t o : ℕ) → has teams t ≡ true → has teams o ≡ true → worst_apart mask (row_of rows t) (row_of rows o) ≤ spread) →
-      0 ≡ deviation g (Fa2 teams slots most)
+      0 ≡ worst_gaps_with g teams slots most set
+  unfolding worst_gaps_with
   none_over spread near further =
-      sym (sum_below_zero max_teams _ (λ t below. at t (has teams t) refl)) ∙ told_by_rows
+      sym (sum_below_zero g.teams _ (λ t in_t. sum_below_zero t _ (λ o lower.
+      at o t lower (has set o || has set t) (has teams o) (has teams t) refl refl)))
     where
-      each : (t o : ℕ) → has teams t ≡ true → (a : Bool) → has teams o ≡ a →
-          (if has teams o then over (worst_apart mask (row_of rows o) (row_of rows t)) most else 0) ≡ 0
-      each t o in_t true in_o = rw in_o (omega (arith, near, further o t in_o in_t))
-      each t o in_t false out = rw out refl
-
-      at : (t : ℕ) (a : Bool) → has teams t ≡ a → (if has teams t then over_of_rows rows mask teams most t else 0) ≡ 0
-      at t true in_t = rw in_t (sum_below_zero t _ (λ o lower. each t o in_t (has teams o) refl))
-      at t false out = rw out refl
+      at : (o t : ℕ) → o < t → (one a b : Bool) → has teams o ≡ a → has teams t ≡ b →
+          (if (has teams o && has teams t) && one then worst_gap g (has slots) most o t else 0) ≡ 0
+      at o t lower true true true in_o in_t =
+          rw (in_o, in_t) (omega (arith, one_gap o t lower in_o in_t, near, further o t in_o in_t))
+      at o t lower false true true in_o in_t = rw (in_o, in_t) refl
+      at o t lower one true false in_o out = rw (in_o, out) refl
+      at o t lower one false b out in_t = rw out refl

@@ -17,8 +17,8 @@ use Rattle.fixtures.specs.Games.{Games, round_count, round_of, cell, IsPair, IsD
 use Rattle.fixtures.proofs.ForCallers.{cell_home}
 use Rattle.robinx.specs.LooksPast.{takes_all_or_none, looks_past}
 use Rattle.robinx.specs.Touches.{has_touched_team, has_touched_game, looks_at_team, looks_at_round, touches}
-use Rattle.robinx.specs.Parts.{is_guest, meets_otherwise, counts_otherwise, has_moved_game, is_pair_with, changing_terms, tells_apart}
-use Rattle.robinx.specs.Parts.{can_alter, deviation_part}
+use Rattle.robinx.specs.Parts.{is_guest, meets_otherwise, counts_otherwise, has_moved_game, is_pair_with, worst_gaps_with}
+use Rattle.robinx.specs.Parts.{changing_terms, tells_apart, can_alter, deviation_part}
 use Rattle.robinx.proofs.unaltered.LookedPast.{AreApart-tested, others-tested}
 
 module _ (g : Games) (rr : IsDoubleRoundRobin g) (main rounds sides : ℕ) where
@@ -58,7 +58,7 @@ module _ (g : Games) (rr : IsDoubleRoundRobin g) (main rounds sides : ℕ) where
       (none j in_j parts.1))
 
   none_changes : (body : RuleBody) → IsBodyFor g.teams body → IsQuiet body → changing_terms g main rounds sides body ≡ 0
-  unfolding changing_terms
+  unfolding changing_terms worst_gaps_with
   none_changes (Ca1 teams side slots most) is quiet =
       sum_where_none g.teams (λ t. has teams t && has sides t) _ (λ t in_t. not_both _ _ (quiet t in_t))
   none_changes (Ca2 teams1 side teams2 slots most) is quiet =
@@ -76,7 +76,9 @@ module _ (g : Games) (rr : IsDoubleRoundRobin g) (main rounds sides : ℕ) where
   none_changes (Se1 teams least) is quiet =
       sum_below_zero g.teams _ (λ j in_j. sum_below_zero j _ (λ i lower. cond-false {A = ℕ} _ _ 0
       (and_left _ _ (no_pair teams main i j (omega arith) in_j quiet))))
-  none_changes (Fa2 teams slots most) is quiet = cond-false {A = ℕ} _ _ 0 (none_of_all teams (has sides) is.0 quiet)
+  none_changes (Fa2 teams slots most) is quiet =
+      sum_below_zero g.teams _ (λ j in_j. sum_below_zero j _ (λ i lower. cond-false {A = ℕ} _ _ 0
+      (no_pair teams sides i j (omega arith) in_j quiet)))
 
   no_part : (body : RuleBody) → IsBodyFor g.teams body → IsQuiet body → deviation_part g main rounds sides body ≡ 0
   unfolding deviation_part

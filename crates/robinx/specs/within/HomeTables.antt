@@ -1,5 +1,5 @@
 -- Words for the home games that FA2 keeps from one schedule to the next.
-use Rattle.std.specs.Prelude.{◌≡◌, ℕ, ◌+◌, ◌<◌, Bool, true, not, if◌then◌else◌, List, length, slice_index}
+use Rattle.std.specs.Prelude.{◌≡◌, ℕ, ◌+◌, ◌<◌, ◌&&◌, ◌||◌, Bool, true, not, if◌then◌else◌, List, length, slice_index}
 use Rattle.league.specs.Limits.{max_teams}
 use Rattle.league.specs.Sets.{has}
 use Rattle.league.specs.Sums.{count_where, sum_where}
@@ -28,7 +28,8 @@ abbrev pub AreRowsOf : Games → (ℕ → Bool) → List (List ℕ) → Type 0
 AreRowsOf g teams rows =
     (t r : ℕ) → teams t ≡ true → r < round_count g.teams → slice_index (row_of rows t) r ≡ home_games g t r
 
--- by how much the rows of a team and of each lower one of a set are apart in a mask, over the most
-abbrev pub over_of_rows : List (List ℕ) → List ℕ → ℕ → ℕ → ℕ → ℕ
-over_of_rows rows mask teams most team =
-    sum_where team (has teams) (λ o. over (worst_apart mask (row_of rows o) (row_of rows team)) most)
+-- by how much the rows of a team and of each lower one of a set are apart in a mask, over the most, if one of the two is in another set
+abbrev pub over_of_rows : List (List ℕ) → List ℕ → ℕ → ℕ → ℕ → ℕ → ℕ
+over_of_rows rows mask teams set most team =
+    sum_where team (λ o. has teams o && (has set o || has set team))
+    (λ o. over (worst_apart mask (row_of rows o) (row_of rows team)) most)

@@ -1,6 +1,5 @@
-use Rattle.std.proofs.Common.{◌<◌, ◌&&◌, arith, refl, ◌∙◌, ap}
+use Rattle.std.proofs.Common.{◌<◌, arith, refl, ◌∙◌}
 use Rattle.league.specs.Limits.{max_teams}
-use Rattle.league.specs.Sets.{has}
 use Rattle.league.proofs.ForCallers.{sum_without_none, sum_without_more, sum_without_all, lowest_below}
 use Rattle.robinx.proofs.rows.HomeTables.{sum_of_lower}
 use Rattle.robinx.proofs.home_table.HomeTable.over.Goals as goal
@@ -8,10 +7,8 @@ use Rattle.robinx.proofs.home_table.HomeTable.over.Goals as goal
 pub loop-team-init : goal.loop-team-init
 loop-team-init c = sum_without_none _ _ _ _ _ (omega arith) c.into_iter-team-iterator.ensures.into_iter_gives
 
-pub below-requires : goal.below-requires
-below-requires c =
-    let in_table : c.in-Some.team < max_teams = lowest_below _ _ _ _ c.loop-team.invariant.below c.in-Some.ensures.steps in
-    omega (arith, in_table)
+pub lower_with-others-requires : goal.lower_with-others-requires
+lower_with-others-requires c = lowest_below _ _ _ _ c.loop-team.invariant.below c.in-Some.ensures.steps
 
 pub over_with-total-requires : goal.over_with-total-requires
 over_with-total-requires c = lowest_below _ _ _ _ c.loop-team.invariant.below c.in-Some.ensures.steps
@@ -21,8 +18,7 @@ loop-team-preserved c =
     let in_table : c.in-Some.team < max_teams = lowest_below _ _ _ _ c.loop-team.invariant.below c.in-Some.ensures.steps in
     sum_without_more _ _ _ _ _ _ _ _ _ c.loop-team.invariant c.in-Some.ensures.steps
     (c.over_with-total.ensures.value ∙
-    sum_of_lower c.in-Some.team c.args.teams _ _ (omega (arith, in_table))
-    (λ o. c.intersection-earlier.ensures.members o ∙ ap (λ b. has c.args.teams o && b) (c.below.ensures.members o)))
+    sum_of_lower c.in-Some.team c.args.teams c.args.set _ _ (omega (arith, in_table)) c.lower_with-others.ensures)
     c.over_with-total.ensures.limit
 
 pub returns : goal.returns
