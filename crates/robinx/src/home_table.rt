@@ -72,11 +72,8 @@ impl HomeTable {
             let homes = schedule.home_rounds(team);
             let kept = self.homes[place];
             if kept != homes {
-                flip(
-                    &mut self.rows[place],
-                    kept.symmetric_difference(homes),
-                    homes,
-                );
+                let changed = kept.symmetric_difference(homes);
+                flip(&mut self.rows[place], changed, homes);
                 self.homes[place] = homes;
                 flipped = flipped.with(team);
             }

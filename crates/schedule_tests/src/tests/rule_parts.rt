@@ -97,25 +97,34 @@ const OF_HOMES: &[(&str, &str, u64)] = &[
         r#""class":"SE1","teams":[],"min":10"#,
         0,
     ),
+];
+
+/// Of the pairs of the first rule such an exchange can alter those with team 1 or 2, whose worst gaps are the first number, and not those of the
+/// second rule, whose are the second number.
+const OF_PAIRS: &[(&str, &str, u64, u64)] = &[
     (
         r#""class":"FA2","teams":[1,2,3,4,5,6],"intp":0"#,
-        r#""class":"FA2","teams":[1,2,3,4,5,6],"intp":0"#,
-        19,
+        r#""class":"FA2","teams":[3,4,5,6],"intp":0"#,
+        13,
+        6,
     ),
     (
         r#""class":"FA2","teams":[1,2,3,4,5,6],"intp":1"#,
-        r#""class":"FA2","teams":[1,2,3,4,5,6],"intp":1"#,
+        r#""class":"FA2","teams":[3,4,5,6],"intp":1"#,
         4,
+        0,
     ),
     (
         r#""class":"FA2","teams":[1,3,4,6],"slots":[2,3,7],"intp":0"#,
-        r#""class":"FA2","teams":[1,3,4,6],"slots":[2,3,7],"intp":0"#,
-        7,
+        r#""class":"FA2","teams":[3,4,6],"slots":[2,3,7],"intp":0"#,
+        4,
+        3,
     ),
     (
         r#""class":"FA2","teams":[2,4,5,6],"slots":[2,3,7],"intp":0"#,
-        r#""class":"FA2","teams":[2,4,5,6],"slots":[2,3,7],"intp":0"#,
-        5,
+        r#""class":"FA2","teams":[4,5,6],"slots":[2,3,7],"intp":0"#,
+        3,
+        2,
     ),
 ];
 
@@ -229,6 +238,17 @@ fn check_parts(
 #[test]
 fn parts_of_an_exchange_of_homes(rt: HostRuntime) -> Result<(), Fail> {
     check_parts(&rt, rt.alloc(), their_games(), OF_HOMES)
+}
+
+#[test]
+fn parts_of_pairs(rt: HostRuntime) -> Result<(), Fail> {
+    let start = berger(rt.alloc(), 6)?;
+    for &(rule, others, altered, kept) in OF_PAIRS {
+        check_part(&rt, rt.alloc(), &start, their_games(), (rule, altered))?;
+        check_deviation(&rt, rt.alloc(), &start, (others, kept))?;
+        check_deviation(&rt, rt.alloc(), &start, (rule, altered + kept))?;
+    }
+    Ok(())
 }
 
 #[test]

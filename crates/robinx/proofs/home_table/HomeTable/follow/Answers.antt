@@ -29,7 +29,7 @@ pub flip-requires-clause-row : goal.flip-requires-clause-row
 flip-requires-clause-row c =
     let in_games : c.in-Some.team < c.args.schedule.now.teams = lowest_below _ _ _ _ c.loop-team.invariant.below c.in-Some.ensures.steps in
     row_to_flip _ c.in-Some.team c.from-place.result _ _ _ c.loop-team.invariant.is c.from-place.ensures
-    (omega (arith, in_games, c.requires.round_robin.most)) c.symmetric_difference.ensures.members
+    (omega (arith, in_games, c.requires.round_robin.most)) c.symmetric_difference-changed.ensures.members
 
 pub listed-then-ne : goal.listed-then-ne
 listed-then-ne c =
