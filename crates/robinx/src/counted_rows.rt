@@ -1,20 +1,27 @@
-//! The teams of which games count, a row for each round, found by the games of the opponents.
+//! The teams of which games count, a row for each round.
 
-ghost use Rattle.std.specs.Prelude.{◌≡◌, ℕ, ◌+◌, ◌<◌, ◌≤◌, true, not, length, slice_index};
+ghost use Rattle.std.specs.Prelude.{◌≡◌, ℕ, ◌+◌, ◌<◌, ◌≤◌, ◌&&◌, ◌||◌, ◌==◌, true, not, length, slice_index};
 ghost use Rattle.league.specs.Limits.{max_rounds};
-ghost use Rattle.league.specs.Sets.{has};
+ghost use Rattle.league.specs.Sets.{has, IsBelow};
 ghost use Rattle.fixtures.specs.Games.{round_count, cell, IsDoubleRoundRobin};
 ghost use Rattle.robinx.specs.Deviations.{is_on_side, is_counted};
-ghost use Rattle.robinx.specs.within.Walked.{HaveCounted};
+ghost use Rattle.robinx.specs.within.Walked.{IsRow};
 
 use crate::counted_games::{CountedGames, is_on_side};
 use fixtures::Schedule;
 use league::limits::MAX_ROUNDS;
-use league::{SlotSet, TeamSet};
+use league::{Side, SlotSet, TeamSet};
 
 pub(crate) const ROUNDS: usize = MAX_ROUNDS as usize;
 
-/// For each round less than a window away from one of these rounds the teams whose games count in it. Rows of other rounds may lack some.
+/// How many rows are made at once, which takes half as long as one after another.
+const AT_ONCE: u8 = 4;
+
+/// The rows of a round and of the next three.
+type Four = (TeamSet, TeamSet, TeamSet, TeamSet);
+
+/// For each round less than a window away from one of these rounds those of the teams whose games count in it. Rows of other rounds may
+/// lack some.
 pub(crate) fn rows_near(
     schedule: &Schedule,
     games: &CountedGames,
@@ -22,12 +29,13 @@ pub(crate) fn rows_near(
     window: u8,
 ) -> [TeamSet; ROUNDS]
     requires round_robin { IsDoubleRoundRobin schedule.now }
+    requires teams { IsBelow schedule.now.teams games.now.teams }
     requires least { 1 ≤ window }
     requires window { window ≤ round_count schedule.now.teams }
     ensures len { length result ≡ max_rounds }
-    ensures members { (t r c : ℕ) → t < schedule.now.teams → r < round_count schedule.now.teams →
-        c < round_count schedule.now.teams → has rounds c ≡ true → r < c + window → c < r + window →
-        has (slice_index result r) t ≡ is_counted schedule.now games.now.side (has games.now.opponents) t r }
+    ensures members { (r c : ℕ) → r < round_count schedule.now.teams → c < round_count schedule.now.teams → has rounds c ≡ true →
+        r < c + window → c < r + window →
+        IsRow schedule.now games.now.side games.now.opponents games.now.teams r (slice_index result r) }
 {
     let season = schedule.rounds();
     let in_season = SlotSet::below(season).intersection(rounds);
@@ -44,7 +52,7 @@ pub(crate) fn rows_near(
     rows
 }
 
-/// Adds the teams whose games count in the rounds from one up to another.
+/// Makes the rows of the rounds from one up to another, and maybe of some before and after these.
 fn add_rounds(
     rows: &mut [TeamSet; ROUNDS],
     schedule: &Schedule,
@@ -53,48 +61,146 @@ fn add_rounds(
     past: u8,
 )
     requires round_robin { IsDoubleRoundRobin schedule.now }
+    requires teams { IsBelow schedule.now.teams games.now.teams }
+    requires from { from ≤ past }
     requires past { past ≤ round_count schedule.now.teams }
     requires len { length rows.old ≡ max_rounds }
-    requires counted { HaveCounted schedule.now games.now.side games.now.opponents rows.old }
     ensures len { length rows.new ≡ max_rounds }
-    ensures counted { HaveCounted schedule.now games.now.side games.now.opponents rows.new }
-    ensures kept { (t r : ℕ) → has (slice_index rows.old r) t ≡ true → has (slice_index rows.new r) t ≡ true }
-    ensures added { (t r : ℕ) → t < schedule.now.teams → from ≤ r → r < past →
-        is_counted schedule.now games.now.side (has games.now.opponents) t r ≡ true → has (slice_index rows.new r) t ≡ true }
+    ensures kept { (r : ℕ) → IsRow schedule.now games.now.side games.now.opponents games.now.teams r (slice_index rows.old r) →
+        IsRow schedule.now games.now.side games.now.opponents games.now.teams r (slice_index rows.new r) }
+    ensures added { (r : ℕ) → from ≤ r → r < past →
+        IsRow schedule.now games.now.side games.now.opponents games.now.teams r (slice_index rows.new r) }
 {
-    let opponents = TeamSet::below(schedule.teams()).intersection(games.opponents);
-    for opponent in opponents {
-        add_games(rows, schedule, games, opponent, from, past);
+    let last = schedule.rounds() - AT_ONCE;
+    for block in 0..(past - from).div_ceil(AT_ONCE) {
+        let round = (from + AT_ONCE * block).min(last);
+        let (first, second, third, fourth) = four_rows(schedule, games, round);
+        let place = usize::from(round);
+        rows[place] = first;
+        rows[place + 1] = second;
+        rows[place + 2] = third;
+        rows[place + 3] = fourth;
     }
 }
 
-/// Adds in these rounds the team whose game against the opponent counts.
-#[inline]
-fn add_games(
-    rows: &mut [TeamSet; ROUNDS],
+/// Four rows. A side that is told here is no test in the loops.
+fn four_rows(schedule: &Schedule, games: &CountedGames, round: u8) -> Four
+    requires round_robin { IsDoubleRoundRobin schedule.now }
+    requires teams { IsBelow schedule.now.teams games.now.teams }
+    requires rounds { round + 4 ≤ round_count schedule.now.teams }
+    ensures first { IsRow schedule.now games.now.side games.now.opponents games.now.teams round result.0 }
+    ensures second { IsRow schedule.now games.now.side games.now.opponents games.now.teams (round + 1) result.1 }
+    ensures third { IsRow schedule.now games.now.side games.now.opponents games.now.teams (round + 2) result.2 }
+    ensures fourth { IsRow schedule.now games.now.side games.now.opponents games.now.teams (round + 3) result.3 }
+{
+    match games.side {
+        Side::Home => rows_on_side(schedule, games, Side::Home, round),
+        Side::Away => rows_on_side(schedule, games, Side::Away, round),
+        Side::Any => rows_on_side(schedule, games, Side::Any, round),
+    }
+}
+
+/// Four rows on a side, found by the games of the teams or of the opponents, whichever are fewer.
+#[inline(always)]
+fn rows_on_side(schedule: &Schedule, games: &CountedGames, side: Side, round: u8) -> Four
+    requires round_robin { IsDoubleRoundRobin schedule.now }
+    requires teams { IsBelow schedule.now.teams games.now.teams }
+    requires rounds { round + 4 ≤ round_count schedule.now.teams }
+    ensures first { IsRow schedule.now side games.now.opponents games.now.teams round result.0 }
+    ensures second { IsRow schedule.now side games.now.opponents games.now.teams (round + 1) result.1 }
+    ensures third { IsRow schedule.now side games.now.opponents games.now.teams (round + 2) result.2 }
+    ensures fourth { IsRow schedule.now side games.now.opponents games.now.teams (round + 3) result.3 }
+{
+    let opponents = TeamSet::below(schedule.teams()).intersection(games.opponents);
+    if games.teams.len() < opponents.len() {
+        own_rows(schedule, games.teams, side, games.opponents, round)
+    } else {
+        guest_rows(schedule, side, opponents, round)
+    }
+}
+
+/// Four rows of the teams, found by their games.
+#[inline(always)]
+fn own_rows(schedule: &Schedule, teams: TeamSet, side: Side, opponents: TeamSet, round: u8) -> Four
+    requires round_robin { IsDoubleRoundRobin schedule.now }
+    requires teams { IsBelow schedule.now.teams teams }
+    requires rounds { round + 4 ≤ round_count schedule.now.teams }
+    ensures first { IsRow schedule.now side opponents teams round result.0 }
+    ensures second { IsRow schedule.now side opponents teams (round + 1) result.1 }
+    ensures third { IsRow schedule.now side opponents teams (round + 2) result.2 }
+    ensures fourth { IsRow schedule.now side opponents teams (round + 3) result.3 }
+{
+    let mut first = TeamSet::empty();
+    let mut second = TeamSet::empty();
+    let mut third = TeamSet::empty();
+    let mut fourth = TeamSet::empty();
+    for team in teams {
+        first = with_own(first, schedule, side, opponents, team, round);
+        second = with_own(second, schedule, side, opponents, team, round + 1);
+        third = with_own(third, schedule, side, opponents, team, round + 2);
+        fourth = with_own(fourth, schedule, side, opponents, team, round + 3);
+    }
+    (first, second, third, fourth)
+}
+
+/// The row with the team, if its game in the round counts.
+#[inline(always)]
+#[tactic(auto, unfolding(crate::specs::Deviations::is_counted))]
+fn with_own(
+    row: TeamSet,
     schedule: &Schedule,
-    games: &CountedGames,
-    opponent: u8,
-    from: u8,
-    past: u8,
-)
+    side: Side,
+    opponents: TeamSet,
+    team: u8,
+    round: u8,
+) -> TeamSet
+    requires round_robin { IsDoubleRoundRobin schedule.now }
+    requires team { team < schedule.now.teams }
+    requires round { round < round_count schedule.now.teams }
+    ensures { (t : ℕ) → has result t ≡ (has row t || (t == team && is_counted schedule.now side (has opponents) team round)) }
+{
+    let game = schedule.game_at(team, round);
+    let counts = is_on_side(side, game.home) && opponents.has(game.opponent);
+    if counts { row.with(team) } else { row }
+}
+
+/// Four rows of all teams, found by the games of the opponents.
+#[inline(always)]
+fn guest_rows(schedule: &Schedule, side: Side, opponents: TeamSet, round: u8) -> Four
+    requires round_robin { IsDoubleRoundRobin schedule.now }
+    requires opponents { IsBelow schedule.now.teams opponents }
+    requires rounds { round + 4 ≤ round_count schedule.now.teams }
+    ensures first { (teams : ℕ) → IsBelow schedule.now.teams teams → IsRow schedule.now side opponents teams round result.0 }
+    ensures second { (teams : ℕ) → IsBelow schedule.now.teams teams → IsRow schedule.now side opponents teams (round + 1) result.1 }
+    ensures third { (teams : ℕ) → IsBelow schedule.now.teams teams → IsRow schedule.now side opponents teams (round + 2) result.2 }
+    ensures fourth { (teams : ℕ) → IsBelow schedule.now.teams teams → IsRow schedule.now side opponents teams (round + 3) result.3 }
+{
+    let mut first = TeamSet::empty();
+    let mut second = TeamSet::empty();
+    let mut third = TeamSet::empty();
+    let mut fourth = TeamSet::empty();
+    for opponent in opponents {
+        first = with_guest(first, schedule, side, opponent, round);
+        second = with_guest(second, schedule, side, opponent, round + 1);
+        third = with_guest(third, schedule, side, opponent, round + 2);
+        fourth = with_guest(fourth, schedule, side, opponent, round + 3);
+    }
+    (first, second, third, fourth)
+}
+
+/// The row with the team that meets the opponent in the round, if its game is on this side.
+#[inline(always)]
+fn with_guest(row: TeamSet, schedule: &Schedule, side: Side, opponent: u8, round: u8) -> TeamSet
     requires round_robin { IsDoubleRoundRobin schedule.now }
     requires opponent { opponent < schedule.now.teams }
-    requires counts { has games.now.opponents opponent ≡ true }
-    requires past { past ≤ round_count schedule.now.teams }
-    requires len { length rows.old ≡ max_rounds }
-    requires counted { HaveCounted schedule.now games.now.side games.now.opponents rows.old }
-    ensures len { length rows.new ≡ max_rounds }
-    ensures counted { HaveCounted schedule.now games.now.side games.now.opponents rows.new }
-    ensures kept { (t r : ℕ) → has (slice_index rows.old r) t ≡ true → has (slice_index rows.new r) t ≡ true }
-    ensures added { (r : ℕ) → from ≤ r → r < past → is_on_side games.now.side (not (cell schedule.now opponent r).home) ≡ true →
-        has (slice_index rows.new r) (cell schedule.now opponent r).opponent ≡ true }
+    requires round { round < round_count schedule.now.teams }
+    ensures { (t : ℕ) → has result t ≡ (has row t ||
+        (is_on_side side (not (cell schedule.now opponent round).home) && t == (cell schedule.now opponent round).opponent)) }
 {
-    for round in from..past {
-        let game = schedule.game_at(opponent, round);
-        if is_on_side(games.side, !game.home) {
-            let position = usize::from(round);
-            rows[position] = rows[position].with(game.opponent);
-        }
+    let game = schedule.game_at(opponent, round);
+    if is_on_side(side, !game.home) {
+        row.with(game.opponent)
+    } else {
+        row
     }
 }

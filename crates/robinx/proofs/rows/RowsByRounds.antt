@@ -1,31 +1,27 @@
--- The teams of which games count, a row for each round, found by the games of the opponents.
-use Rattle.std.proofs.Common.{◌≡◌, ◌≢◌, ℕ, zero, suc, ◌+◌, ◌-◌, ◌<◌, ◌≤◌, ◌&&◌, ◌||◌, ◌==◌, not, nat_lt, Bool, true, false, List, length}
-use Rattle.std.proofs.Common.{get_or, refl, sym, ◌∙◌, ap, inl, inr, arith, get_or-set_other}
-use Rattle.std.proofs.Math.ListN.{set, replicate}
-use Rattle.std.proofs.lemmas.Grind.{get_or-set_at, get_or_default_zero}
-use Rattle.std.proofs.lemmas.List.{length-set, get_or-replicate}
-use Rattle.std.proofs.Math.Bool.{or-true}
-use Rattle.std.proofs.lemmas.Bool.{cases_eq, eq-eqb, ne_eqb, lt-ltb, and_parts, and_from, false≢true}
+-- The teams of which games count, a row for each round, found by their own games or by those of the opponents.
+use Rattle.std.proofs.Common.{◌≡◌, ◌≢◌, ℕ, zero, suc, ◌+◌, ◌-◌, ◌<◌, ◌≤◌, ◌&&◌, ◌||◌, ◌==◌, not, nat_lt, Bool, true, false, List, length, min, ◌*◌}
+use Rattle.std.proofs.Common.{get_or, refl, sym, ◌∙◌, ap, subst, inl, inr, arith, get_or-set_other}
+use Rattle.std.proofs.Math.ListN.{set}
+use Rattle.std.proofs.lemmas.Grind.{get_or-set_at}
+use Rattle.std.proofs.lemmas.List.{length-set}
+use Rattle.std.proofs.Math.Bool.{or-false, and-false, and-true}
+use Rattle.std.proofs.lemmas.Bool.{cases_eq, cases_lt, eq-eqb, ne_eqb, lt-ltb, false≢true}
 use Rattle.league.specs.Limits.{max_rounds}
 use Rattle.league.specs.Sets.{has, IsBelow}
 use Rattle.league.specs.within.Sets.{IsWithoutLowest}
 use Rattle.league.specs.Sums.{sum_where, count_where, any_below}
 use Rattle.league.specs.declared.rule.Side.{Side}
-use Rattle.league.proofs.ForCallers.{others_kept, sum_where_same, count_where_same}
+use Rattle.league.proofs.ForCallers.{has_beyond, has_empty, lowest_gone, others_kept, sum_where_same, count_where_same}
 use Rattle.fixtures.specs.declared.game.Cell.{Cell}
 use Rattle.fixtures.specs.Games.{Games, round_count, cell, IsCell, IsDoubleRoundRobin}
 use Rattle.fixtures.proofs.ForCallers.{cell_is, is_cell, pair_swapped}
 use Rattle.robinx.specs.Deviations.{over, is_on_side, is_counted, games_in_window}
-use Rattle.robinx.specs.within.Walked.{HaveCounted}
+use Rattle.robinx.specs.within.Walked.{IsRow}
 
 pub same_when : (a b : Bool) → (a ≡ true → b ≡ true) → (b ≡ true → a ≡ true) → a ≡ b
 same_when true b there back = sym (there refl)
 same_when false true there back = back refl
 same_when false false there back = refl
-
--- a row more has a team
-or_members : (t at new : ℕ) (old : Bool) → (t == at || old) ≡ true → (t ≢ at → old ≡ true)
-or_members t at new old here other = sym (ap (λ b. b || old) (ne_eqb t at other)) ∙ here
 
 -- a game is its opponent's too, on the other side
 opponents_game : (g : Games) (rr : IsDoubleRoundRobin g) (t r : ℕ) → t < g.teams → r < round_count g.teams →
@@ -41,181 +37,235 @@ opponents_game g rr t r in_t in_r = by_home (cell g t r).opponent (cell g t r).h
         cell_is g rr o r (record { opponent = t; home = true })
         (record { pair = pair_swapped g.teams t o is.pair; in_round = is.in_round })
 
--- a loop over rounds has added in each the team whose game against the opponent counts
-pub record HasAdded (g : Games) (side : Side) (opponents opponent from next : ℕ) (old rows : List ℕ) : Type 0 where
-  pub len : length rows ≡ max_rounds
-  pub counted : HaveCounted g side opponents rows
-  pub kept : (t r : ℕ) → has (get_or old r 0) t ≡ true → has (get_or rows r 0) t ≡ true
-  pub added : (r : ℕ) → from ≤ r → r < next → is_on_side side (not (cell g opponent r).home) ≡ true →
-      has (get_or rows r 0) (cell g opponent r).opponent ≡ true
-
-module _ (g : Games) (rr : IsDoubleRoundRobin g) (side : Side) (opponents opponent from round : ℕ) (old rows : List ℕ)
-    (in_o : opponent < g.teams) (in_season : round < round_count g.teams)
-    (so_far : HasAdded g side opponents opponent from round old rows) where
-  pub added_more : (at before row met : ℕ) → at ≡ round → met ≡ (cell g opponent round).opponent → has opponents opponent ≡ true →
-      is_on_side side (not (cell g opponent round).home) ≡ true →
-      ((t : ℕ) → has row t ≡ (t == met || has (get_or rows at before) t)) →
-      HasAdded g side opponents opponent from (round + 1) old (set rows at row)
-  unfolding is_counted
-  added_more at before row met at_is met_is counts on_side adds = record {
-    len = length-set rows at row ∙ so_far.len;
-    counted = λ t r in_r here. elim (cases_eq r round) [
-      | inl same ↦ elim (cases_eq t (cell g opponent round).opponent) [
-        | inl here ↦ rw (same, here, opponents_game g rr opponent round in_o in_season) (and_from _ _ on_side counts)
-        | inr other ↦
-            rw same
-            (so_far.counted t round in_season
-            (or_members t (cell g opponent round).opponent row (has (get_or rows round 0) t)
-            (sym (now t) ∙ sym (ap (λ s. has s t) (at_round r same)) ∙ here) other))
-      ]
-      | inr other ↦ so_far.counted t r in_r (sym (ap (λ s. has s t) (elsewhere r other)) ∙ here)
-    ];
-    kept = λ t r here. elim (cases_eq r round) [
-      | inl same ↦
-          ap (λ s. has s t) (at_round r same) ∙ now t ∙
-          ap (λ b. t == (cell g opponent round).opponent || b) (ap (λ k. has (get_or rows k 0) t) (sym same) ∙ so_far.kept t r here) ∙
-          or-true (t == (cell g opponent round).opponent)
-      | inr other ↦ ap (λ s. has s t) (elsewhere r other) ∙ so_far.kept t r here
-    ];
-    added = λ r from_r before_next side_is. elim (cases_eq r round) [
-      | inl same ↦
-          rw same
-          (ap (λ s. has s (cell g opponent round).opponent) (at_round round refl) ∙ now (cell g opponent round).opponent ∙
-          ap (λ b. b || has (get_or rows round 0) (cell g opponent round).opponent)
-          (eq-eqb (cell g opponent round).opponent (cell g opponent round).opponent refl))
-      | inr other ↦
-          ap (λ s. has s (cell g opponent r).opponent) (elsewhere r other) ∙ so_far.added r from_r (omega arith) side_is
-    ];
-  }
-    where
-      in_rows : at < length rows
-      in_rows = omega (arith, so_far.len, rr.most, in_season, at_is)
-
-      at_round : (r : ℕ) → r ≡ round → get_or (set rows at row) r 0 ≡ row
-      at_round r same = get_or-set_at rows at r row 0 (same ∙ sym at_is) in_rows
-
-      elsewhere : (r : ℕ) → r ≢ round → get_or (set rows at row) r 0 ≡ get_or rows r 0
-      elsewhere r other = get_or-set_other rows at r row 0 (λ same. other (same ∙ at_is))
-
-      now : (t : ℕ) → has row t ≡ (t == (cell g opponent round).opponent || has (get_or rows round 0) t)
-      now t =
-          adds t ∙ ap (λ o. t == o || has (get_or rows at before) t) met_is ∙
-          ap (λ s. t == (cell g opponent round).opponent || has s t)
-          (get_or_default_zero rows at before in_rows ∙ ap (λ k. get_or rows k 0) at_is)
-
-  pub added_same : is_on_side side (not (cell g opponent round).home) ≡ false →
-      HasAdded g side opponents opponent from (round + 1) old rows
-  added_same off_side = record {
-    len = so_far.len;
-    counted = so_far.counted;
-    kept = so_far.kept;
-    added = λ r from_r before_next side_is. elim (cases_eq r round) [
-      | inl same ↦ absurd (false≢true (sym off_side ∙ ap (λ k. is_on_side side (not (cell g opponent k).home)) (sym same) ∙ side_is))
-      | inr other ↦ so_far.added r from_r (omega arith) side_is
-    ];
-  }
-
--- a loop over opponents has added in the rounds the teams whose games against those that aren't left count
-pub record HasAddedAll (g : Games) (side : Side) (opponents all left from past : ℕ) (old rows : List ℕ) : Type 0 where
-  pub below : IsBelow g.teams left
+-- in a loop over a set some are left
+pub record IsLeft (n all left : ℕ) : Type 0 where
+  pub below : IsBelow n left
   pub within : (k : ℕ) → has left k ≡ true → has all k ≡ true
-  pub len : length rows ≡ max_rounds
-  pub counted : HaveCounted g side opponents rows
-  pub kept : (t r : ℕ) → has (get_or old r 0) t ≡ true → has (get_or rows r 0) t ≡ true
-  pub added : (t r : ℕ) → t < g.teams → from ≤ r → r < past → is_counted g side (has opponents) t r ≡ true →
-      has left (cell g t r).opponent ≡ false → has (get_or rows r 0) t ≡ true
 
-pub all_added_none : (g : Games) (side : Side) (opponents whole all left from past : ℕ) (rows : List ℕ) → IsDoubleRoundRobin g →
-    past ≤ round_count g.teams → IsBelow g.teams left → left ≡ all → ((k : ℕ) → has whole k ≡ nat_lt k g.teams) →
-    ((k : ℕ) → has all k ≡ (has whole k && has opponents k)) → length rows ≡ max_rounds → HaveCounted g side opponents rows →
-    HasAddedAll g side opponents all left from past rows rows
-unfolding is_counted
-all_added_none g side opponents whole all left from past rows rr in_season below same wholes are len counted = record {
-  below = below;
-  within = λ k here. sym (ap (λ s. has s k) same) ∙ here;
-  len = len;
-  counted = counted;
-  kept = λ t r here. here;
-  added = λ t r in_t from_r before_past counts gone.
-      absurd (false≢true (sym gone ∙ ap (λ s. has s (cell g t r).opponent) same ∙ are (cell g t r).opponent ∙
-      and_from _ _
-      (wholes (cell g t r).opponent ∙ lt-ltb (cell g t r).opponent g.teams (is_cell g rr t r in_t (omega arith)).pair.away_in)
-      (and_parts (is_on_side side (cell g t r).home) (has opponents (cell g t r).opponent) counts).1));
+pub left_whole : (n all left : ℕ) → IsBelow n all → left ≡ all → IsLeft n all left
+left_whole n all left below same = record {
+  below = rw same below;
+  within = λ k here. ap (λ s. has s k) (sym same) ∙ here;
 }
 
-pub all_added_more : (g : Games) (rr : IsDoubleRoundRobin g) (side : Side) (opponents all left lowest rest from past : ℕ)
-    (old rows new : List ℕ) → past ≤ round_count g.teams → HasAddedAll g side opponents all left from past old rows →
-    IsWithoutLowest left lowest rest → length new ≡ max_rounds → HaveCounted g side opponents new →
-    ((t r : ℕ) → has (get_or rows r 0) t ≡ true → has (get_or new r 0) t ≡ true) →
-    ((r : ℕ) → from ≤ r → r < past → is_on_side side (not (cell g lowest r).home) ≡ true →
-    has (get_or new r 0) (cell g lowest r).opponent ≡ true) → HasAddedAll g side opponents all rest from past old new
-unfolding is_counted
-all_added_more g rr side opponents all left lowest rest from past old rows new in_season so_far taken len counted keeps adds = record {
+pub left_fewer : (n all left lowest rest : ℕ) → IsLeft n all left → IsWithoutLowest left lowest rest → IsLeft n all rest
+left_fewer n all left lowest rest so_far taken = record {
   below = omega (arith, so_far.below, taken.fewer);
-  within = λ k here. so_far.within k (and_parts (has left k) (not (k == lowest)) (sym (taken.others k) ∙ here)).0;
-  len = len;
-  counted = counted;
-  kept = λ t r here. keeps t r (so_far.kept t r here);
-  added = λ t r in_t from_r before_past counts gone. elim (cases_eq (cell g t r).opponent lowest) [
-    | inl same ↦
-        let game : cell g lowest r ≡ record { opponent = t; home = not (cell g t r).home } =
-        ap (λ k. cell g k r) (sym same) ∙ opponents_game g rr t r in_t (omega arith) in
-        ap (λ (c : Cell). has (get_or new r 0) c.opponent) (sym game) ∙
-        adds r from_r before_past
-        (ap (λ (c : Cell). is_on_side side (not c.home)) game ∙ ap (is_on_side side) (twice (cell g t r).home) ∙
-        (and_parts (is_on_side side (cell g t r).home) (has opponents (cell g t r).opponent) counts).0)
-    | inr other ↦
-        keeps t r
-        (so_far.added t r in_t from_r before_past counts
-        (sym (others_kept left lowest rest (cell g t r).opponent taken other) ∙ gone))
+  within = λ k here. elim (cases_eq k lowest) [
+    | inl same ↦ absurd (false≢true (sym (lowest_gone left lowest rest taken) ∙ ap (has rest) (sym same) ∙ here))
+    | inr apart ↦ so_far.within k (sym (others_kept left lowest rest k taken apart) ∙ here)
   ];
 }
+
+-- those that aren't left
+abbrev pub gone : ℕ → ℕ → ℕ → Bool
+gone all left k = has all k && not (has left k)
+
+gone_none : (all left k : ℕ) → left ≡ all → gone all left k ≡ false
+gone_none all left k same = ap (λ s. has all k && not (has s k)) same ∙ neither (has all k)
+  where
+    neither : (b : Bool) → (b && not b) ≡ false
+    neither true = refl
+    neither false = refl
+
+gone_all : (all left k : ℕ) → left ≡ 0 → gone all left k ≡ has all k
+gone_all all left k none = ap (λ b. has all k && not b) (ap (λ s. has s k) none ∙ has_empty k) ∙ and-true (has all k)
+
+module _ (n all left lowest rest : ℕ) (so_far : IsLeft n all left) (taken : IsWithoutLowest left lowest rest) where
+  gone_before : gone all left lowest ≡ false
+  gone_before = ap (λ b. has all lowest && not b) taken.in_set ∙ and-false (has all lowest)
+
+  gone_now : gone all rest lowest ≡ true
+  gone_now = rw (so_far.within lowest taken.in_set, lowest_gone left lowest rest taken) refl
+
+  gone_same : (k : ℕ) → k ≢ lowest → gone all rest k ≡ gone all left k
+  gone_same k apart = ap (λ b. has all k && not b) (others_kept left lowest rest k taken apart)
+
+-- a row has those of the teams that aren't left whose games count
+abbrev pub IsOwnRow : Games → Side → ℕ → ℕ → ℕ → ℕ → ℕ → Type 0
+IsOwnRow g side opponents all left r row = (t : ℕ) → has row t ≡ (gone all left t && is_counted g side (has opponents) t r)
+
+pub own_more : (g : Games) (side : Side) (opponents n all left lowest rest r row new : ℕ) → IsLeft n all left → IsWithoutLowest left lowest rest →
+    IsOwnRow g side opponents all left r row →
+    ((t : ℕ) → has new t ≡ (has row t || (t == lowest && is_counted g side (has opponents) lowest r))) →
+    IsOwnRow g side opponents all rest r new
+own_more g side opponents n all left lowest rest r row new some taken is adds = λ t. elim (cases_eq t lowest) [
+  | inl same ↦
+      rw same
+      (adds lowest ∙
+      ap (λ b. b || (lowest == lowest && counts lowest))
+      (is lowest ∙ ap (λ b. b && counts lowest) (gone_before n all left lowest rest some taken)) ∙
+      ap (λ b. b && counts lowest) (eq-eqb lowest lowest refl) ∙
+      sym (ap (λ b. b && counts lowest) (gone_now n all left lowest rest some taken)))
+  | inr apart ↦
+      adds t ∙ ap (λ b. has row t || (b && counts lowest)) (ne_eqb t lowest apart) ∙ or-false (has row t) ∙ is t ∙
+      sym (ap (λ b. b && counts t) (gone_same n all left lowest rest some taken t apart))
+]
+  where
+    counts : ℕ → Bool
+    counts t = is_counted g side (has opponents) t r
+
+-- a row has the teams whose games against those that aren't left count
+abbrev pub IsGuestRow : Games → Side → ℕ → ℕ → ℕ → ℕ → Type 0
+IsGuestRow g side all left r row = (t : ℕ) → t < g.teams → has row t ≡ is_counted g side (gone all left) t r
+
+pub guests_none : (g : Games) (side : Side) (all left r row : ℕ) → left ≡ all → ((t : ℕ) → has row t ≡ false) →
+    IsGuestRow g side all left r row
+unfolding is_counted
+guests_none g side all left r row same empty = λ t in_t.
+    empty t ∙ sym (ap (λ b. is_on_side side (cell g t r).home && b) (gone_none all left (cell g t r).opponent same) ∙
+    and-false (is_on_side side (cell g t r).home))
+
+pub guests_more : (g : Games) (rr : IsDoubleRoundRobin g) (side : Side) (all left lowest rest r row new : ℕ) → r < round_count g.teams →
+    lowest < g.teams → IsLeft g.teams all left → IsWithoutLowest left lowest rest → IsGuestRow g side all left r row →
+    ((t : ℕ) → has new t ≡ (has row t || (is_on_side side (not (cell g lowest r).home) && t == (cell g lowest r).opponent))) →
+    IsGuestRow g side all rest r new
+unfolding is_counted
+guests_more g rr side all left lowest rest r row new in_r in_lowest some taken is adds = λ t in_t. elim (cases_eq (cell g t r).opponent lowest) [
+  | inl same ↦
+      let game : cell g lowest r ≡ record { opponent = t; home = not (cell g t r).home } =
+      ap (λ k. cell g k r) (sym same) ∙ opponents_game g rr t r in_t in_r in
+      adds t ∙
+      ap (λ b. b || (is_on_side side (not (cell g lowest r).home) && t == (cell g lowest r).opponent))
+      (is t in_t ∙ ap (λ o. is_on_side side (cell g t r).home && gone all left o) same ∙
+      ap (λ b. is_on_side side (cell g t r).home && b) (gone_before g.teams all left lowest rest some taken) ∙
+      and-false (is_on_side side (cell g t r).home)) ∙
+      ap (λ (c : Cell). is_on_side side (not c.home) && t == c.opponent) game ∙
+      ap (λ b. is_on_side side (not (not (cell g t r).home)) && b) (eq-eqb t t refl) ∙
+      ap (λ b. is_on_side side b && true) (twice (cell g t r).home) ∙
+      sym (ap (λ o. is_on_side side (cell g t r).home && gone all rest o) same ∙
+      ap (λ b. is_on_side side (cell g t r).home && b) (gone_now g.teams all left lowest rest some taken))
+  | inr apart ↦
+      adds t ∙
+      ap (λ b. has row t || (is_on_side side (not (cell g lowest r).home) && b))
+      (ne_eqb t (cell g lowest r).opponent (λ here. apart (ap (λ (c : Cell). c.opponent) (other_way t here)))) ∙
+      ap (λ b. has row t || b) (and-false (is_on_side side (not (cell g lowest r).home))) ∙ or-false (has row t) ∙ is t in_t ∙
+      sym (ap (λ b. is_on_side side (cell g t r).home && b) (gone_same g.teams all left lowest rest some taken (cell g t r).opponent apart))
+]
   where
     twice : (b : Bool) → not (not b) ≡ b
     twice true = refl
     twice false = refl
 
--- a loop over rounds has added the teams that count in the rounds less than a window away from those that aren't left
-pub record HasAddedNear (g : Games) (side : Side) (opponents all left window : ℕ) (rows : List ℕ) : Type 0 where
-  pub below : IsBelow (round_count g.teams) left
+    other_way : (t : ℕ) → t ≡ (cell g lowest r).opponent → cell g t r ≡ record { opponent = lowest; home = not (cell g lowest r).home }
+    other_way t here = ap (λ k. cell g k r) here ∙ opponents_game g rr lowest r in_lowest in_r
+
+pub guests_all : (g : Games) (side : Side) (all left r row : ℕ) → left ≡ 0 → IsGuestRow g side all left r row →
+    (teams : ℕ) → IsBelow g.teams teams → IsRow g side all teams r row
+unfolding is_counted
+guests_all g side all left r row none is teams below = λ t in_teams. elim (cases_lt t g.teams) [
+  | inl in_t ↦ is t in_t ∙ ap (λ b. is_on_side side (cell g t r).home && b) (gone_all all left (cell g t r).opponent none)
+  | inr past ↦ absurd (false≢true (sym (has_beyond g.teams teams t below past) ∙ in_teams))
+]
+
+-- of opponents those count that are teams
+pub row_in_teams : (g : Games) (rr : IsDoubleRoundRobin g) (side : Side) (whole some opponents teams r row : ℕ) → r < round_count g.teams →
+    IsBelow g.teams teams → ((k : ℕ) → has whole k ≡ nat_lt k g.teams) → ((k : ℕ) → has some k ≡ (has whole k && has opponents k)) →
+    IsRow g side some teams r row → IsRow g side opponents teams r row
+unfolding is_counted
+row_in_teams g rr side whole some opponents teams r row in_r below wholes are is = λ t in_teams. elim (cases_lt t g.teams) [
+  | inl in_t ↦
+      is t in_teams ∙
+      ap (λ b. is_on_side side (cell g t r).home && b)
+      (are (cell g t r).opponent ∙
+      ap (λ b. b && has opponents (cell g t r).opponent)
+      (wholes (cell g t r).opponent ∙ lt-ltb (cell g t r).opponent g.teams (is_cell g rr t r in_t in_r).pair.away_in))
+  | inr past ↦ absurd (false≢true (sym (has_beyond g.teams teams t below past) ∙ in_teams))
+]
+
+-- four rows in a row are put into their places
+module _ (IsAt : ℕ → ℕ → Type 0) (rows : List ℕ) (place first second third fourth : ℕ) (room : place + 3 < length rows)
+    (of_first : IsAt place first) (of_second : IsAt (place + 1) second) (of_third : IsAt (place + 2) third)
+    (of_fourth : IsAt (place + 3) fourth) where
+  abbrev one : List ℕ
+  one = set rows place first
+
+  abbrev two : List ℕ
+  two = set one (place + 1) second
+
+  abbrev three : List ℕ
+  three = set two (place + 2) third
+
+  abbrev four : List ℕ
+  four = set three (place + 3) fourth
+
+  len_three : length three ≡ length rows
+  len_three = length-set two (place + 2) third ∙ length-set one (place + 1) second ∙ length-set rows place first
+
+  pub len_four : length four ≡ length rows
+  len_four = length-set three (place + 3) fourth ∙ len_three
+
+  put : (list : List ℕ) (at r row : ℕ) → at < length list → IsAt at row → (r ≢ at → IsAt r (get_or list r 0)) →
+      IsAt r (get_or (set list at row) r 0)
+  put list at r row in_list is others = elim (cases_eq r at) [
+    | inl same ↦
+        subst (IsAt r) (sym (get_or-set_at list at r row 0 same in_list)) (subst (λ (k : ℕ). IsAt k row) (sym same) is)
+    | inr apart ↦ subst (IsAt r) (sym (get_or-set_other list at r row 0 apart)) (others apart)
+  ]
+
+  pub four_at : (r : ℕ) → (r ≢ place → r ≢ place + 1 → r ≢ place + 2 → r ≢ place + 3 → IsAt r (get_or rows r 0)) →
+      IsAt r (get_or four r 0)
+  four_at r others =
+      put three (place + 3) r fourth (omega (arith, room, len_three)) of_fourth
+      (λ not_fourth. put two (place + 2) r third
+      (omega (arith, room, length-set one (place + 1) second, length-set rows place first)) of_third
+      (λ not_third. put one (place + 1) r second (omega (arith, room, length-set rows place first)) of_second
+      (λ not_second. put rows place r first (omega (arith, room)) of_first
+      (λ not_first. others not_first not_second not_third not_fourth))))
+
+-- a loop over blocks of four rounds has made the rows of those before its block
+pub record HasMade (IsAt : ℕ → ℕ → Type 0) (season from block : ℕ) (old rows : List ℕ) : Type 0 where
   pub len : length rows ≡ max_rounds
-  pub counted : HaveCounted g side opponents rows
-  pub added : (t r c : ℕ) → t < g.teams → r < round_count g.teams → has all c ≡ true → has left c ≡ false → r < c + window →
-      c < r + window → is_counted g side (has opponents) t r ≡ true → has (get_or rows r 0) t ≡ true
+  pub kept : (r : ℕ) → IsAt r (get_or old r 0) → IsAt r (get_or rows r 0)
+  pub made : (r : ℕ) → from ≤ r → r < from + 4 * block → r < season → IsAt r (get_or rows r 0)
 
--- rows that have no team yet
-pub none_counted : (g : Games) (side : Side) (opponents none : ℕ) → IsDoubleRoundRobin g → ((t : ℕ) → has none t ≡ false) →
-    HaveCounted g side opponents (replicate max_rounds none)
-none_counted g side opponents none rr empty = λ t r in_r here.
-    absurd (false≢true (sym (empty t) ∙ sym (ap (λ s. has s t) (get_or-replicate max_rounds r none 0 (omega (arith, in_r, rr.most)))) ∙ here))
+pub made_more : (IsAt : ℕ → ℕ → Type 0) (season from block place first second third fourth : ℕ) (old rows : List ℕ) → 4 ≤ season →
+    season ≤ max_rounds → place ≡ min (from + 4 * block) (season - 4) → HasMade IsAt season from block old rows →
+    IsAt place first → IsAt (place + 1) second → IsAt (place + 2) third → IsAt (place + 3) fourth →
+    HasMade IsAt season from (block + 1) old
+    (set (set (set (set rows place first) (place + 1) second) (place + 2) third) (place + 3) fourth)
+made_more IsAt season from block place first second third fourth old rows least most here so_far of_first of_second of_third of_fourth = record {
+  len = len_four IsAt rows place first second third fourth room of_first of_second of_third of_fourth ∙ so_far.len;
+  kept = λ r is. new r (λ not_first not_second not_third not_fourth. so_far.kept r is);
+  made = λ r ge lt in_season. new r (λ not_first not_second not_third not_fourth.
+      so_far.made r ge (omega (arith, ge, lt, in_season, here, not_first, not_second, not_third, not_fourth)) in_season);
+}
+  where
+    room : place + 3 < length rows
+    room = omega (arith, so_far.len, here, least, most)
 
-pub near_added_none : (g : Games) (side : Side) (opponents all left window : ℕ) (rows : List ℕ) → IsBelow (round_count g.teams) left →
-    left ≡ all → length rows ≡ max_rounds → HaveCounted g side opponents rows → HasAddedNear g side opponents all left window rows
-near_added_none g side opponents all left window rows below same len counted = record {
+    new : (r : ℕ) → (r ≢ place → r ≢ place + 1 → r ≢ place + 2 → r ≢ place + 3 → IsAt r (get_or rows r 0)) →
+        IsAt r (get_or (set (set (set (set rows place first) (place + 1) second) (place + 2) third) (place + 3) fourth) r 0)
+    new = four_at IsAt rows place first second third fourth room of_first of_second of_third of_fourth
+
+-- a loop over rounds has made the rows of the rounds less than a window away from those that aren't left
+pub record HasMadeNear (IsAt : ℕ → ℕ → Type 0) (season all left window : ℕ) (rows : List ℕ) : Type 0 where
+  pub below : IsBelow season left
+  pub len : length rows ≡ max_rounds
+  pub made : (r c : ℕ) → r < season → has all c ≡ true → has left c ≡ false → r < c + window → c < r + window → IsAt r (get_or rows r 0)
+
+pub near_none : (IsAt : ℕ → ℕ → Type 0) (season all left window : ℕ) (rows : List ℕ) → IsBelow season left → left ≡ all →
+    length rows ≡ max_rounds → HasMadeNear IsAt season all left window rows
+near_none IsAt season all left window rows below same len = record {
   below = below;
   len = len;
-  counted = counted;
-  added = λ t r c in_t in_r here gone near_c near_r counts. absurd (false≢true (sym gone ∙ ap (λ s. has s c) same ∙ here));
+  made = λ r c in_r here gone near_c near_r. absurd (false≢true (sym gone ∙ ap (λ s. has s c) same ∙ here));
 }
 
-pub near_added_more : (g : Games) (side : Side) (opponents all left lowest rest window from past : ℕ) (rows new : List ℕ) →
-    HasAddedNear g side opponents all left window rows → IsWithoutLowest left lowest rest → length new ≡ max_rounds →
-    HaveCounted g side opponents new → ((t r : ℕ) → has (get_or rows r 0) t ≡ true → has (get_or new r 0) t ≡ true) →
-    ((t r : ℕ) → t < g.teams → from ≤ r → r < past → is_counted g side (has opponents) t r ≡ true → has (get_or new r 0) t ≡ true) →
-    ((r : ℕ) → lowest < r + window → from ≤ r) → ((r : ℕ) → r < round_count g.teams → r < lowest + window → r < past) →
-    HasAddedNear g side opponents all rest window new
-near_added_more g side opponents all left lowest rest window from past rows new so_far taken len counted keeps adds from_is past_is =
-    record {
-      below = omega (arith, so_far.below, taken.fewer);
-      len = len;
-      counted = counted;
-      added = λ t r c in_t in_r here gone near_c near_r counts. elim (cases_eq c lowest) [
-        | inl same ↦ adds t r in_t (from_is r (omega arith)) (past_is r in_r (omega arith)) counts
-        | inr other ↦
-            keeps t r
-            (so_far.added t r c in_t in_r here (sym (others_kept left lowest rest c taken other) ∙ gone) near_c near_r counts)
-      ];
-    }
+pub near_more : (IsAt : ℕ → ℕ → Type 0) (season all left lowest rest window from past : ℕ) (rows new : List ℕ) →
+    HasMadeNear IsAt season all left window rows → IsWithoutLowest left lowest rest → length new ≡ max_rounds →
+    ((r : ℕ) → IsAt r (get_or rows r 0) → IsAt r (get_or new r 0)) →
+    ((r : ℕ) → from ≤ r → r < past → IsAt r (get_or new r 0)) →
+    ((r : ℕ) → lowest < r + window → from ≤ r) → ((r : ℕ) → r < season → r < lowest + window → r < past) →
+    HasMadeNear IsAt season all rest window new
+near_more IsAt season all left lowest rest window from past rows new so_far taken len keeps made from_is past_is = record {
+  below = omega (arith, so_far.below, taken.fewer);
+  len = len;
+  made = λ r c in_r here gone near_c near_r. elim (cases_eq c lowest) [
+    | inl same ↦ made r (from_is r (omega arith)) (past_is r in_r (omega arith))
+    | inr other ↦ keeps r (so_far.made r c in_r here (sym (others_kept left lowest rest c taken other) ∙ gone) near_c near_r)
+  ];
+}
 
 -- one that passes
 pub any_one : (n : ℕ) (test : ℕ → Bool) → any_below n test ≡ true → (k : ℕ) × (k < n) × (test k ≡ true)

@@ -37,10 +37,9 @@ over_from_starts g side opponents window most starts team =
     sum_where (round_count g.teams + 1 - window) (has starts)
     (λ first. over (games_in_window g side (has opponents) window team first) most)
 
--- each row, one for each round, has only teams whose games in it count
-abbrev pub HaveCounted : Games → Side → ℕ → List ℕ → Type 0
-HaveCounted g side opponents rows =
-    (t r : ℕ) → r < round_count g.teams → has (slice_index rows r) t ≡ true → is_counted g side (has opponents) t r ≡ true
+-- a row has those of some teams whose games count in its round
+abbrev pub IsRow : Games → Side → ℕ → ℕ → ℕ → ℕ → Type 0
+IsRow g side opponents teams r row = (t : ℕ) → has teams t ≡ true → has row t ≡ is_counted g side (has opponents) t r
 
 -- the breaks of some teams in the slots, all together
 abbrev pub breaks_together : Games → ℕ → ℕ → ℕ

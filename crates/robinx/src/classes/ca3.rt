@@ -61,7 +61,7 @@ pub(crate) fn ca3_part(
             return whole;
         }
     }
-    if goes_by_rounds(schedule, &otherwise, starts, window, most) {
+    if goes_by_rounds(schedule, &otherwise, change.rounds, starts, window, most) {
         let rows = rows_near(schedule, &otherwise, change.rounds, length);
         over_in_rows(&rows, otherwise.teams, starts, length, most)
     } else {
@@ -69,21 +69,27 @@ pub(crate) fn ca3_part(
     }
 }
 
-/// Finding in each round the teams that count takes less than for each team the rounds that count if there are
-/// few windows for so many teams. With all teams as opponents it doesn't, since the sides tell enough.
+/// Whether finding in each round the teams that count takes less than for each team the rounds that count: about as many times seven
+/// instructions as stand here. With all teams as opponents it doesn't, since the sides tell enough.
 fn goes_by_rounds(
     schedule: &Schedule,
     games: &CountedGames,
+    changed: SlotSet,
     starts: SlotSet,
     window: u32,
     most: u32,
 ) -> bool
+    requires least { 1 ≤ window }
+    requires season { window ≤ max_rounds }
     ensures longer { result ≡ true → most < window }
     ensures told { result ≡ true → window ≤ most + 2 }
 {
     let told = most < window && window - most <= 2;
     let some = games.opponents != TeamSet::below(schedule.teams());
-    told && some && starts.len() < 2 * games.teams.len()
+    let near = (changed.len() * (2 * window - 1)).min(schedule.rounds().into());
+    let by_rounds = near * games.teams.len().min(games.opponents.len()) + 5 * starts.len() + 20;
+    let by_teams = games.teams.len() * (7 * games.opponents.len() + 16);
+    told && some && by_rounds < by_teams
 }
 
 /// The games of each team that count in each window that begins with one of the starts, over the most.

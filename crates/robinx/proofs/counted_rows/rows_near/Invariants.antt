@@ -1,6 +1,9 @@
-use Rattle.robinx.proofs.rows.RowsByRounds.{HasAddedNear}
+use Rattle.fixtures.specs.Games.{round_count}
+use Rattle.robinx.specs.within.Walked.{IsRow}
+use Rattle.robinx.proofs.rows.RowsByRounds.{HasMadeNear}
 use Rattle.robinx.proofs.counted_rows.rows_near.Given as goal
 
 abbrev pub invariant-loop-round : goal.invariant-loop-round
 invariant-loop-round l =
-    HasAddedNear l.schedule l.games.side l.games.opponents l.initial.round-iterator l.round-iterator l.window l.rows
+    HasMadeNear (IsRow l.schedule l.games.side l.games.opponents l.games.teams) (round_count l.schedule.teams) l.initial.round-iterator
+    l.round-iterator l.window l.rows

@@ -49,7 +49,7 @@ returns-then-goes_by_rounds c =
     c.rows_near-rows.result c.args.window c.args.most t c.intersection-starts.result
     (λ s here. sym (c.starts_meeting.ensures.members s) ∙
     (and_parts (has c.below-windows.result s) (has c.starts_meeting.result s) (sym (c.intersection-starts.ensures.members s) ∙ here)).1)
-    (λ r at in_r in_at. c.rows_near-rows.ensures.members t r at below in_r in_at) ∙
+    (λ r at in_r in_at changed near_at near_r. c.rows_near-rows.ensures.members r at in_r in_at changed near_at near_r t is) ∙
     met_starts c.args.schedule.now others.result.side (has others.result.opponents) (has c.args.change.now.rounds) c.args.window c.args.most t
     c.below-windows.result c.starts_meeting.result c.intersection-starts.result _ (ap (λ n. n + 1 - c.args.window) c.rounds.ensures.number)
     c.below-windows.ensures.members c.starts_meeting.ensures.members c.intersection-starts.ensures.members) ∙
