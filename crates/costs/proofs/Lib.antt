@@ -6,3 +6,4 @@ pub mod Partial
 pub mod CountingOrders
 pub mod KeptDeviations
 pub mod ForCallers
+pub mod KnownRests

@@ -75,15 +75,15 @@ counted_balances false new old before after balance = refl
 -- rules
 
 -- a rule of any weight adds as much more as its deviation is more
-abbrev IsEven : (Weight → ℕ → ℕ) → Type 0
+abbrev pub IsEven : (Weight → ℕ → ℕ) → Type 0
 IsEven penalty = (weight : Weight) (new before old after : ℕ) → new + before ≡ old + after →
     penalty weight new + penalty weight before ≡ penalty weight old + penalty weight after
 
-hard_even : IsEven hard_penalty
+pub hard_even : IsEven hard_penalty
 hard_even Hard new before old after balance = balance
 hard_even (Soft weight) new before old after balance = refl
 
-soft_even : IsEven soft_penalty
+pub soft_even : IsEven soft_penalty
 soft_even Hard new before old after balance = refl
 soft_even (Soft weight) new before old after balance =
     omega (arith, mul-add weight new before, mul-add weight old after, ap (λ n. weight * n) balance)

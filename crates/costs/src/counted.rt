@@ -8,7 +8,7 @@ ghost use Rattle.league.specs.Sets.{has};
 ghost use Rattle.tours.specs.Phased.{unphased_part};
 ghost use Rattle.fixtures.specs.Exchanges.{exchanged_by};
 ghost use Rattle.costs.specs.Costs.{cost_of, score_by, where_phased, AreWeights, IsCostWithin};
-ghost use Rattle.costs.specs.within.CostParts.{with_halves, with_penalties, IsPredicted, IsRest, IsScope, KnowsRules};
+ghost use Rattle.costs.specs.within.CostParts.{halves_part, with_halves, with_penalties, IsPredicted, IsRest, IsScope, KnowsRules};
 ghost use Rattle.costs.specs.within.KeptDeviations.{AreKeptDeviations, AreRests, IsKeptOf};
 
 use crate::cost::Cost;
@@ -62,13 +62,60 @@ pub(crate) fn rest_within(
     let (weights, limit) = (scope.attempt.weights, scope.attempt.limit);
     let halves = phases_part(schedule, league, scope.main);
     if deviations.is_known {
-        let known = known_penalties(schedule, league, deviations, scope);
-        if without(predicted, halves, known).score_by(weights) > limit {
-            return None;
-        }
+        return rest_of_known(schedule, league, deviations, scope, predicted, halves);
     }
     let parts = parts_of_rules(schedule, league, deviations, scope);
     let rest = without(predicted, halves, parts);
+    if rest.score_by(weights) > limit {
+        return None;
+    }
+    Some(rest)
+}
+
+/// That cost where the deviations are known: with no rule broken that the exchange can alter, and then with what of one deviation after another
+/// it can't alter, until the score is above the greatest that the attempt allows.
+fn rest_of_known(
+    schedule: &Schedule,
+    league: &League,
+    deviations: &mut KeptDeviations,
+    scope: &Scope<'_>,
+    predicted: Cost,
+    halves: u64,
+) -> Option<Cost>
+    requires same_size { teams league.now ≡ schedule.now.teams }
+    requires scope { IsScope schedule.now scope.now }
+    requires weights { AreWeights scope.now.attempt.weights }
+    requires rules { KnowsRules league.now scope.now }
+    requires deviations { AreKeptDeviations league.now.rules schedule.now deviations.old }
+    requires known { deviations.old.is_known ≡ true }
+    requires predicted { IsPredicted league.now schedule.now scope.now.attempt.exchange.now predicted }
+    requires halves { halves ≡ halves_part league.now scope.now schedule.now }
+    ensures rest { MatchOption result
+        (scope.now.attempt.limit < score_by scope.now.attempt.weights (cost_of league.now (exchanged_by schedule.now scope.now.attempt.exchange.now)))
+        (λ rest. IsRest league.now scope.now (exchanged_by schedule.now scope.now.attempt.exchange.now) rest) }
+    ensures deviations { AreKeptDeviations league.now.rules schedule.now deviations.new }
+    ensures same { IsKeptOf deviations.new deviations.old }
+    ensures rests { IfSome result (λ _. deviations.new.is_known ≡ true →
+        AreRests league.now.rules scope.now (has scope.now.rules) schedule.now deviations.new.kept deviations.new.next) }
+{
+    prove_eq!(league.teams(), schedule.teams());
+    let (weights, limit) = (scope.attempt.weights, scope.attempt.limit);
+    let known = known_penalties(schedule, league, deviations, scope);
+    let mut rest = without(predicted, halves, known);
+    let rules = deviations.maybe_broken(scope.rules);
+    for i in rules {
+        if rest.score_by(weights) > limit {
+            return None;
+        }
+        let rule = league.rule(i);
+        let part = deviations.part_before(schedule, rule, i, scope);
+        let stays = deviations.kept[i].saturating_sub(part as u32);
+        deviations.next[i] = stays;
+        let added = Penalties::of_rule(rule.weight, u64::from(stays));
+        rest.hard += added.hard;
+        rest.of_rules += added.hard;
+        rest.soft += added.soft;
+    }
     if rest.score_by(weights) > limit {
         return None;
     }

@@ -1,60 +1,11 @@
-use Rattle.std.proofs.Common.{ap, arith}
+use Rattle.std.proofs.Common.{arith}
 use Rattle.fixtures.specs.Exchanges.{exchanged_by}
 use Rattle.costs.proofs.PartLimits.{hard_fits, of_rules_fits, soft_fits}
 use Rattle.costs.proofs.Parts.{rest_after, rest_scores, score_fits_after}
-use Rattle.costs.proofs.Walked.{least_scores, parts_within}
+use Rattle.costs.proofs.Walked.{parts_within}
 use Rattle.costs.proofs.counted.rest_within.Goals as goal
 
--- the cost with no rule broken that the exchange can alter scores no more than the schedule after it
-
-pub without-requires-clause-hard : goal.without-requires-clause-hard
-without-requires-clause-hard c =
-    omega (
-      arith,
-      hard_fits c.args.league.now c.args.scope.now c.args.schedule.now _ _ c.requires.predicted,
-      c.phases_part-halves.ensures.value,
-      ap (λ p. p.hard) c.known_penalties-known.ensures,
-    )
-
-pub without-requires-clause-of_rules : goal.without-requires-clause-of_rules
-without-requires-clause-of_rules c =
-    omega (
-      arith,
-      of_rules_fits c.args.league.now c.args.scope.now c.args.schedule.now _ _ c.requires.predicted,
-      ap (λ p. p.hard) c.known_penalties-known.ensures,
-    )
-
-pub without-requires-clause-soft : goal.without-requires-clause-soft
-without-requires-clause-soft c =
-    omega (
-      arith,
-      soft_fits c.args.league.now c.args.scope.now c.args.schedule.now _ _ c.requires.predicted,
-      ap (λ p. p.soft) c.known_penalties-known.ensures,
-    )
-
-pub score_by-requires : goal.score_by-requires
-score_by-requires c =
-    omega (
-      arith,
-      least_scores c.args.league.now c.args.schedule.now c.args.scope.now c.args.scope.now.attempt.weights c.args.predicted c.without.result _ _
-          c.teams.ensures.limits c.requires.same_size c.teams-2.ensures.round_robin c.requires.rules c.requires.scope c.requires.predicted
-          c.without.ensures c.phases_part-halves.ensures.value c.known_penalties-known.ensures,
-      score_fits_after c.args.league.now c.args.schedule.now c.args.scope.now.attempt.exchange.now c.args.scope.now.attempt.weights
-          c.teams.ensures.limits c.requires.same_size c.requires.weights,
-    )
-
-pub returns-then-score_by-limit-clause-rest : goal.returns-then-score_by-limit-clause-rest
-returns-then-score_by-limit-clause-rest c =
-    omega (
-      arith,
-      least_scores c.args.league.now c.args.schedule.now c.args.scope.now c.args.scope.now.attempt.weights c.args.predicted c.without.result _ _
-          c.teams.ensures.limits c.requires.same_size c.teams-2.ensures.round_robin c.requires.rules c.requires.scope c.requires.predicted
-          c.without.ensures c.phases_part-halves.ensures.value c.known_penalties-known.ensures,
-      c.score_by.ensures,
-      c.if-score_by-limit.true,
-    )
-
--- nor does it without what the exchange can alter
+-- the cost without what the exchange can alter scores no more than the schedule after it
 
 pub without-rest-requires-clause-hard : goal.without-rest-requires-clause-hard
 without-rest-requires-clause-hard c =
@@ -87,8 +38,8 @@ without-rest-requires-clause-soft c =
       c.parts_of_rules-parts.ensures.soft,
     )
 
-pub score_by-requires-2 : goal.score_by-requires-2
-score_by-requires-2 c =
+pub score_by-requires : goal.score_by-requires
+score_by-requires c =
     omega (
       arith,
       rest_scores c.args.league.now c.args.scope.now.attempt.weights c.args.scope.now
@@ -100,8 +51,8 @@ score_by-requires-2 c =
           c.teams.ensures.limits c.requires.same_size c.requires.weights,
     )
 
-pub returns-then-score_by-limit-2-clause-rest : goal.returns-then-score_by-limit-2-clause-rest
-returns-then-score_by-limit-2-clause-rest c =
+pub returns-then-score_by-limit-clause-rest : goal.returns-then-score_by-limit-clause-rest
+returns-then-score_by-limit-clause-rest c =
     omega (
       arith,
       rest_scores c.args.league.now c.args.scope.now.attempt.weights c.args.scope.now
@@ -109,8 +60,8 @@ returns-then-score_by-limit-2-clause-rest c =
           (rest_after c.args.league.now c.args.schedule.now c.args.scope.now c.args.predicted c.without-rest.result _ _ c.teams.ensures.limits
           c.requires.same_size c.requires.scope c.requires.predicted c.without-rest.ensures c.phases_part-halves.ensures.value
           c.parts_of_rules-parts.ensures.hard c.parts_of_rules-parts.ensures.soft),
-      c.score_by-2.ensures,
-      c.if-score_by-limit-2.true,
+      c.score_by.ensures,
+      c.if-score_by-limit.true,
     )
 
 pub returns-clause-rest : goal.returns-clause-rest
