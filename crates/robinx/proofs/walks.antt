@@ -1,3 +1,4 @@
 -- Loops over sets and lists.
 pub mod Sets
 pub mod Searches
+pub mod Left

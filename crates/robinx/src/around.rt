@@ -3,7 +3,7 @@
 ghost use Rattle.std.specs.Prelude.{◌≡◌, ℕ, ◌<◌, ◌≤◌, ◌&&◌, ◌||◌, ◌==◌};
 ghost use Rattle.league.specs.Limits.{max_teams};
 ghost use Rattle.league.specs.Sets.{has, IsBelow};
-ghost use Rattle.fixtures.specs.Games.{round_count, cell, IsPair, IsDoubleRoundRobin};
+ghost use Rattle.fixtures.specs.Games.{round_count, round_of, cell, IsPair, IsDoubleRoundRobin};
 ghost use Rattle.robinx.specs.Parts.{is_guest, meet_in, counts_otherwise};
 
 use crate::looked_past::takes_all_or_none;
@@ -117,7 +117,8 @@ fn around_main(schedule: &Schedule, main: TeamSet, rounds: SlotSet, teams: TeamS
     teams.intersection(around)
 }
 
-/// The teams that the team meets in one of the rounds.
+/// The teams that the team meets in one of the rounds. It looks at the rounds or at the others, whichever are fewer: each other team is met
+/// twice in the season.
 #[inline]
 pub(crate) fn opponents_in(schedule: &Schedule, rounds: SlotSet, team: u8) -> TeamSet
     requires team { team < schedule.now.teams }
@@ -126,12 +127,50 @@ pub(crate) fn opponents_in(schedule: &Schedule, rounds: SlotSet, team: u8) -> Te
         has result t ≡ meet_in schedule.now (has rounds) t team }
     ensures below { IsBelow schedule.now.teams result }
 {
-    let in_season = SlotSet::below(schedule.rounds()).intersection(rounds);
+    let season = SlotSet::below(schedule.rounds());
+    let inside = season.intersection(rounds);
+    let outside = season.difference(rounds);
+    if inside.len() <= outside.len() {
+        return met_in(schedule, inside, team);
+    }
+    TeamSet::below(schedule.teams()).difference(met_twice_in(schedule, outside, team))
+}
+
+/// The teams that the team meets in one of the rounds, by its games in them.
+fn met_in(schedule: &Schedule, rounds: SlotSet, team: u8) -> TeamSet
+    requires team { team < schedule.now.teams }
+    requires round_robin { IsDoubleRoundRobin schedule.now }
+    requires rounds { IsBelow (round_count schedule.now.teams) rounds }
+    ensures members { (t : ℕ) → IsPair schedule.now.teams t team →
+        has result t ≡ meet_in schedule.now (has rounds) t team }
+    ensures below { IsBelow schedule.now.teams result }
+{
     let mut met = TeamSet::empty();
-    for round in in_season {
+    for round in rounds {
         met = met.with(schedule.game_at(team, round).opponent);
     }
     met
+}
+
+/// The teams of which both games with the team are in the rounds.
+fn met_twice_in(schedule: &Schedule, rounds: SlotSet, team: u8) -> TeamSet
+    requires team { team < schedule.now.teams }
+    requires round_robin { IsDoubleRoundRobin schedule.now }
+    requires rounds { IsBelow (round_count schedule.now.teams) rounds }
+    ensures { (t : ℕ) → IsPair schedule.now.teams t team →
+        has result t ≡ (has rounds (round_of schedule.now t team) && has rounds (round_of schedule.now team t)) }
+{
+    let mut once = TeamSet::empty();
+    let mut twice = TeamSet::empty();
+    for round in rounds {
+        let opponent = schedule.game_at(team, round).opponent;
+        if once.has(opponent) {
+            twice = twice.with(opponent);
+        } else {
+            once = once.with(opponent);
+        }
+    }
+    twice
 }
 
 /// Whether the team meets one of the teams in the round.

@@ -1,7 +1,8 @@
 -- Pairs that meet in some rounds: which they are, and their sums, counted at the main teams.
 use Rattle.std.proofs.Common.{◌≡◌, ◌≢◌, ℕ, zero, suc, ◌+◌, ◌<◌, ◌&&◌, ◌||◌, ◌==◌, not, Bool, true, false, if◌then◌else◌}
-use Rattle.std.proofs.Common.{inl, inr, refl, sym, subst, ◌∙◌, ap, arith}
-use Rattle.std.proofs.Math.Bool.{or_assoc, or_comm, and-true, and-false, or-false, and_self}
+use Rattle.std.proofs.Common.{nat_lt, inl, inr, refl, sym, subst, ◌∙◌, ap, ap₂, arith}
+use Rattle.std.proofs.lemmas.Bool.{eqb-true, and_left}
+use Rattle.std.proofs.Math.Bool.{or_assoc, or_comm, and_comm, and-true, and-false, or-false, and_self}
 use Rattle.std.proofs.Math.Nat.{add-zero, max_comm, min_comm}
 use Rattle.std.proofs.lemmas.Bool.{cases_Bool, cases_eq, eq-eqb, ne_eqb, lt-ltb, le-ltb, and_cases, and_right, or_from, or_parts}
 use Rattle.std.proofs.lemmas.Bool.{cond-false, false≢true}
@@ -12,12 +13,14 @@ use Rattle.league.proofs.ForCallers.{sum_below_add, sum_below_same, sum_below_ze
 use Rattle.league.proofs.ForCallers.{sum_where_same, others_kept, has_empty, IsSumWithout, sum_without_more}
 use Rattle.fixtures.specs.Games.{Games, round_count, round_of, cell, IsPair, IsDoubleRoundRobin}
 use Rattle.fixtures.specs.Changes.{DiffersOnlyAround}
-use Rattle.fixtures.proofs.ForCallers.{pair_swapped, round_of_kept, round_of_kept_around}
+use Rattle.fixtures.specs.declared.game.Cell.{Cell}
+use Rattle.fixtures.proofs.ForCallers.{cell_home, cell_is, pair_swapped, round_of_kept, round_of_kept_around}
 use Rattle.robinx.specs.Deviations.{over, rounds_between, short_pairs}
 use Rattle.robinx.specs.Parts.{is_pair_with, meet_in}
 use Rattle.robinx.specs.within.Walked.{counts_pair}
 use Rattle.robinx.proofs.counted.OpponentRounds.{met_any}
 use Rattle.robinx.proofs.balances.PartSums.{whole_balance}
+use Rattle.robinx.proofs.walks.Left.{IsLeft, gone, gone_none, gone_all, gone_before, gone_now, gone_same, left_whole, left_fewer}
 
 -- a change around main teams in some rounds
 module _ (g g' : Games) (rr : IsDoubleRoundRobin g) (rr' : IsDoubleRoundRobin g') (main rounds : ℕ)
@@ -106,6 +109,22 @@ met_in_none g rr team rounds left met below in_season in_teams empty = record {
       refl;
 }
 
+-- the team's opponent in a round is the one with which a game has that round
+pub meets_then : (g : Games) (rr : IsDoubleRoundRobin g) (team lowest t : ℕ) → team < g.teams → lowest < round_count g.teams →
+    IsPair g.teams t team →
+    (t == (cell g team lowest).opponent) ≡ (lowest == round_of g team t || lowest == round_of g t team)
+meets_then g rr team lowest t in_team in_r pair =
+    swapped t (cell g team lowest).opponent ∙
+    ap (λ b. b && (cell g team lowest).opponent == t) (sym (lt-ltb lowest (round_count g.teams) in_r)) ∙
+    sym (met_any g rr team in_team t (pair_swapped _ _ _ pair) lowest) ∙
+    rw (or-false (lowest == round_of g team t), or-false (lowest == round_of g t team)) refl
+  where
+    swapped : (a b : ℕ) → (a == b) ≡ (b == a)
+    swapped a b = elim (cases_eq a b) [
+      | inl same ↦ rw same refl
+      | inr other ↦ ne_eqb a b other ∙ sym (ne_eqb b a (λ same. other (sym same)))
+    ]
+
 pub met_in_more : (g : Games) (rr : IsDoubleRoundRobin g) (team rounds left lowest rest met new : ℕ) → team < g.teams →
     lowest < round_count g.teams → HasMetIn g team rounds left met → IsWithoutLowest left lowest rest → IsBelow g.teams new →
     ((t : ℕ) → has new t ≡ (t == (cell g team lowest).opponent || has met t)) → HasMetIn g team rounds rest new
@@ -115,7 +134,7 @@ met_in_more g rr team rounds left lowest rest met new in_team in_r so_far taken 
   in_teams = in_teams;
   members = λ t pair.
       ap (λ b. b || (has rest (round_of g t team) || has rest (round_of g team t)))
-      (members t ∙ ap (λ b. b || has met t) (here t pair)) ∙
+      (members t ∙ ap (λ b. b || has met t) (meets_then g rr team lowest t in_team in_r pair)) ∙
       ap (λ b. b || (has rest (round_of g t team) || has rest (round_of g team t))) (or_comm _ (has met t)) ∙
       or_assoc (has met t) _ _ ∙
       ap (λ b. has met t || b)
@@ -129,20 +148,6 @@ met_in_more g rr team rounds left lowest rest met new in_team in_r so_far taken 
       | inl same ↦ rw (same, eq-eqb lowest lowest refl, taken.in_set) refl
       | inr other ↦ rw (ne_eqb lowest r (λ same. other (sym same)), others_kept left lowest rest r taken other) refl
     ]
-
-    here : (t : ℕ) → IsPair g.teams t team →
-        (t == (cell g team lowest).opponent) ≡ (lowest == round_of g team t || lowest == round_of g t team)
-    here t pair =
-        swapped t (cell g team lowest).opponent ∙
-        ap (λ b. b && (cell g team lowest).opponent == t) (sym (lt-ltb lowest (round_count g.teams) in_r)) ∙
-        sym (met_any g rr team in_team t (pair_swapped _ _ _ pair) lowest) ∙
-        rw (or-false (lowest == round_of g team t), or-false (lowest == round_of g t team)) refl
-      where
-        swapped : (a b : ℕ) → (a == b) ≡ (b == a)
-        swapped a b = elim (cases_eq a b) [
-          | inl same ↦ rw same refl
-          | inr other ↦ ne_eqb a b other ∙ sym (ne_eqb b a (λ same. other (sym same)))
-        ]
 
     regrouped : (x y a b : Bool) → ((y || x) || (a || b)) ≡ ((x || a) || (y || b))
     regrouped true true a b = refl
@@ -268,3 +273,163 @@ meet_in_swapped g rounds i j = or_comm (rounds (round_of g j i)) (rounds (round_
 pub rounds_between_swapped : (g : Games) (i j : ℕ) → rounds_between g j i ≡ rounds_between g i j
 unfolding rounds_between
 rounds_between_swapped g i j = rw (max_comm (round_of g j i) (round_of g i j), min_comm (round_of g j i) (round_of g i j)) refl
+
+-- in a loop over rounds some teams are met in one of those that aren't left, and some in two
+pub record HasMetTwice (g : Games) (team rounds left once twice : ℕ) : Type 0 where
+  pub some : IsLeft (round_count g.teams) rounds left
+  pub in_one : (t : ℕ) → IsPair g.teams t team → has once t ≡ (gone rounds left (round_of g t team) || gone rounds left (round_of g team t))
+  pub in_both : (t : ℕ) → IsPair g.teams t team → has twice t ≡ (gone rounds left (round_of g t team) && gone rounds left (round_of g team t))
+
+pub met_twice_none : (g : Games) (team rounds left once twice : ℕ) → IsBelow (round_count g.teams) rounds → left ≡ rounds →
+    ((t : ℕ) → has once t ≡ false) → ((t : ℕ) → has twice t ≡ false) → HasMetTwice g team rounds left once twice
+met_twice_none g team rounds left once twice below same no_once no_twice = record {
+  some = left_whole (round_count g.teams) rounds left below same;
+  in_one = λ t pair. no_once t ∙ sym (or_from _ _ (gone_none rounds left (round_of g t team) same) (gone_none rounds left (round_of g team t) same));
+  in_both = λ t pair. no_twice t ∙ sym (and_left _ _ (gone_none rounds left (round_of g t team) same));
+}
+
+-- the two games of a pair have different rounds
+rounds_apart : (g : Games) (rr : IsDoubleRoundRobin g) (t team : ℕ) → IsPair g.teams t team → round_of g t team ≢ round_of g team t
+rounds_apart g rr t team pair same =
+    false≢true
+    (sym (ap (λ (c : Cell). c.home) (cell_is g rr team (round_of g t team) (record { opponent = t; home = false })
+    (record { pair = pair_swapped _ _ _ pair; in_round = refl }))) ∙ ap (λ r. (cell g team r).home) same ∙
+    ap (λ (c : Cell). c.home) (cell_home g rr team t (pair_swapped _ _ _ pair)))
+
+met_twice_more : (g : Games) (rr : IsDoubleRoundRobin g) (team rounds left lowest rest once twice more again : ℕ) → team < g.teams →
+    lowest < round_count g.teams → HasMetTwice g team rounds left once twice → IsWithoutLowest left lowest rest →
+    ((t : ℕ) → has more t ≡ ((t == (cell g team lowest).opponent && not (has once (cell g team lowest).opponent)) || has once t)) →
+    ((t : ℕ) → has again t ≡ ((t == (cell g team lowest).opponent && has once (cell g team lowest).opponent) || has twice t)) →
+    HasMetTwice g team rounds rest more again
+met_twice_more g rr team rounds left lowest rest once twice more again in_team in_r so_far taken adds adds_again = record {
+  some = left_fewer _ _ _ _ _ so_far.some taken;
+  in_one = λ t pair. (step t pair).0;
+  in_both = λ t pair. (step t pair).1;
+}
+  where
+    opponent : ℕ
+    opponent = (cell g team lowest).opponent
+
+    before : ℕ → Bool
+    before k = gone rounds left k
+
+    now : ℕ → Bool
+    now k = gone rounds rest k
+
+    stays : (k : ℕ) → k ≢ lowest → now k ≡ before k
+    stays = gone_same _ rounds left lowest rest so_far.some taken
+
+    was : (k : ℕ) → k ≡ lowest → before k ≡ false
+    was k same = ap before same ∙ gone_before _ rounds left lowest rest so_far.some taken
+
+    is : (k : ℕ) → k ≡ lowest → now k ≡ true
+    is k same = ap now same ∙ gone_now _ rounds left lowest rest so_far.some taken
+
+    -- what is told of one of the team's two games with its opponent
+    told : (a b a' b' o w : Bool) → a ≡ false → a' ≡ true → b' ≡ b → o ≡ (a || b) → w ≡ (a && b) →
+        ((not o || o) ≡ (a' || b')) × ((o || w) ≡ (a' && b'))
+    told a true a' b' o w was_out is_in kept once_is twice_is = rw (once_is, twice_is, was_out, is_in, kept) (refl, refl)
+    told a false a' b' o w was_out is_in kept once_is twice_is = rw (once_is, twice_is, was_out, is_in, kept) (refl, refl)
+
+    step : (t : ℕ) → IsPair g.teams t team →
+        (has more t ≡ (now (round_of g t team) || now (round_of g team t))) ×
+        (has again t ≡ (now (round_of g t team) && now (round_of g team t)))
+    step t pair = elim (cases_eq t opponent) [
+      | inr apart ↦
+          let none = or_parts (lowest == round_of g team t) (lowest == round_of g t team)
+          (sym (meets_then g rr team lowest t in_team in_r pair) ∙ ne_eqb t opponent apart) in
+          let there : now (round_of g t team) ≡ before (round_of g t team) =
+          stays (round_of g t team) (λ same. false≢true (sym none.1 ∙ eq-eqb lowest (round_of g t team) (sym same))) in
+          let back : now (round_of g team t) ≡ before (round_of g team t) =
+          stays (round_of g team t) (λ same. false≢true (sym none.0 ∙ eq-eqb lowest (round_of g team t) (sym same))) in (
+            adds t ∙ ap (λ b. (b && not (has once opponent)) || has once t) (ne_eqb t opponent apart) ∙ so_far.in_one t pair ∙
+                sym (ap₂ (λ a b. a || b) there back),
+            adds_again t ∙ ap (λ b. (b && has once opponent) || has twice t) (ne_eqb t opponent apart) ∙ so_far.in_both t pair ∙
+                sym (ap₂ (λ a b. a && b) there back),
+          )
+      | inl same ↦
+          let one : (lowest == round_of g team t || lowest == round_of g t team) ≡ true =
+          sym (meets_then g rr team lowest t in_team in_r pair) ∙ eq-eqb t opponent same in
+          let both = elim (cases_eq lowest (round_of g team t)) as (λ _. ((not (has once t) || has once t) ≡
+          (now (round_of g t team) || now (round_of g team t))) × ((has once t || has twice t) ≡ (now (round_of g t team) && now (round_of g team t)))) [
+            | inl home ↦
+                let pair_told = told (before (round_of g team t)) (before (round_of g t team)) (now (round_of g team t)) (now (round_of g t team))
+                (has once t) (has twice t) (was (round_of g team t) (sym home)) (is (round_of g team t) (sym home))
+                (stays (round_of g t team) (λ other. rounds_apart g rr t team pair (other ∙ home)))
+                (so_far.in_one t pair ∙ or_comm (before (round_of g t team)) (before (round_of g team t)))
+                (so_far.in_both t pair ∙ and_comm (before (round_of g t team)) (before (round_of g team t))) in (
+                  pair_told.0 ∙ or_comm (now (round_of g team t)) (now (round_of g t team)),
+                  pair_told.1 ∙ and_comm (now (round_of g team t)) (now (round_of g t team)),
+                )
+            | inr not_home ↦
+                let away : lowest ≡ round_of g t team =
+                eqb-true lowest (round_of g t team)
+                (ap (λ b. b || lowest == round_of g t team) (sym (ne_eqb lowest (round_of g team t) not_home)) ∙ one) in
+                told (before (round_of g t team)) (before (round_of g team t)) (now (round_of g t team)) (now (round_of g team t))
+                (has once t) (has twice t) (was (round_of g t team) (sym away)) (is (round_of g t team) (sym away))
+                (stays (round_of g team t) (λ other. not_home (sym other)))
+                (so_far.in_one t pair) (so_far.in_both t pair)
+          ] in (
+            adds t ∙ ap₂ (λ a k. (a && not (has once k)) || has once t) (eq-eqb t opponent same) (sym same) ∙ both.0,
+            adds_again t ∙ ap₂ (λ a k. (a && has once k) || has twice t) (eq-eqb t opponent same) (sym same) ∙ both.1,
+          )
+    ]
+
+pub met_again : (g : Games) (rr : IsDoubleRoundRobin g) (team rounds left lowest rest once twice again : ℕ) → team < g.teams →
+    lowest < round_count g.teams → HasMetTwice g team rounds left once twice → IsWithoutLowest left lowest rest →
+    has once (cell g team lowest).opponent ≡ true → ((t : ℕ) → has again t ≡ (t == (cell g team lowest).opponent || has twice t)) →
+    HasMetTwice g team rounds rest once again
+met_again g rr team rounds left lowest rest once twice again in_team in_r so_far taken met adds =
+    met_twice_more g rr team rounds left lowest rest once twice once again in_team in_r so_far taken
+    (λ t. sym (ap (λ b. (t == (cell g team lowest).opponent && not b) || has once t) met ∙
+    ap (λ b. b || has once t) (and-false (t == (cell g team lowest).opponent))))
+    (λ t. adds t ∙ sym (ap (λ b. (t == (cell g team lowest).opponent && b) || has twice t) met ∙
+    ap (λ b. b || has twice t) (and-true (t == (cell g team lowest).opponent))))
+
+pub met_first : (g : Games) (rr : IsDoubleRoundRobin g) (team rounds left lowest rest once twice more : ℕ) → team < g.teams →
+    lowest < round_count g.teams → HasMetTwice g team rounds left once twice → IsWithoutLowest left lowest rest →
+    has once (cell g team lowest).opponent ≡ false → ((t : ℕ) → has more t ≡ (t == (cell g team lowest).opponent || has once t)) →
+    HasMetTwice g team rounds rest more twice
+met_first g rr team rounds left lowest rest once twice more in_team in_r so_far taken unmet adds =
+    met_twice_more g rr team rounds left lowest rest once twice more twice in_team in_r so_far taken
+    (λ t. adds t ∙ sym (ap (λ b. (t == (cell g team lowest).opponent && not b) || has once t) unmet ∙
+    ap (λ b. b || has once t) (and-true (t == (cell g team lowest).opponent))))
+    (λ t. sym (ap (λ b. (t == (cell g team lowest).opponent && b) || has twice t) unmet ∙
+    ap (λ b. b || has twice t) (and-false (t == (cell g team lowest).opponent))))
+
+pub met_twice_all : (g : Games) (team rounds left once twice : ℕ) → left ≡ 0 → HasMetTwice g team rounds left once twice → (t : ℕ) →
+    IsPair g.teams t team → has twice t ≡ (has rounds (round_of g t team) && has rounds (round_of g team t))
+met_twice_all g team rounds left once twice none so_far t pair =
+    so_far.in_both t pair ∙ ap₂ (λ a b. a && b) (gone_all rounds left (round_of g t team) none) (gone_all rounds left (round_of g team t) none)
+
+-- rounds past the season don't matter
+pub met_same : (g : Games) (rr : IsDoubleRoundRobin g) (team rounds whole inside : ℕ) →
+    ((r : ℕ) → has whole r ≡ nat_lt r (round_count g.teams)) → ((r : ℕ) → has inside r ≡ (has whole r && has rounds r)) → (t : ℕ) →
+    IsPair g.teams t team → meet_in g (has inside) t team ≡ meet_in g (has rounds) t team
+unfolding meet_in
+met_same g rr team rounds whole inside wholes insides t pair =
+    ap₂ (λ a b. a || b) (same (round_of g t team) (rr.in_range t team pair))
+    (same (round_of g team t) (rr.in_range team t (pair_swapped _ _ _ pair)))
+  where
+    same : (r : ℕ) → r < round_count g.teams → has inside r ≡ has rounds r
+    same r in_r = insides r ∙ ap (λ b. b && has rounds r) (wholes r ∙ lt-ltb r (round_count g.teams) in_r)
+
+-- a team is met in one of the rounds if not both games are in the others
+pub met_unless_twice : (g : Games) (rr : IsDoubleRoundRobin g) (team rounds whole outside all twice met : ℕ) →
+    ((r : ℕ) → has whole r ≡ nat_lt r (round_count g.teams)) → ((r : ℕ) → has outside r ≡ (has whole r && not (has rounds r))) →
+    ((t : ℕ) → has all t ≡ nat_lt t g.teams) → ((t : ℕ) → has met t ≡ (has all t && not (has twice t))) → (t : ℕ) → IsPair g.teams t team →
+    has twice t ≡ (has outside (round_of g t team) && has outside (round_of g team t)) → has met t ≡ meet_in g (has rounds) t team
+unfolding meet_in
+met_unless_twice g rr team rounds whole outside all twice met wholes outsides alls mets t pair is =
+    mets t ∙ ap (λ b. b && not (has twice t)) (alls t ∙ lt-ltb t g.teams pair.home_in) ∙ ap not is ∙
+    ap₂ (λ a b. not (a && b)) (out (round_of g t team) (rr.in_range t team pair))
+    (out (round_of g team t) (rr.in_range team t (pair_swapped _ _ _ pair))) ∙
+    not_neither (has rounds (round_of g t team)) (has rounds (round_of g team t))
+  where
+    out : (r : ℕ) → r < round_count g.teams → has outside r ≡ not (has rounds r)
+    out r in_r = outsides r ∙ ap (λ b. b && not (has rounds r)) (wholes r ∙ lt-ltb r (round_count g.teams) in_r)
+
+    not_neither : (a b : Bool) → not (not a && not b) ≡ (a || b)
+    not_neither true b = refl
+    not_neither false true = refl
+    not_neither false false = refl

@@ -4,19 +4,20 @@ use Rattle.std.proofs.Common.{get_or, refl, sym, ◌∙◌, ap, subst, inl, inr,
 use Rattle.std.proofs.Math.ListN.{set}
 use Rattle.std.proofs.lemmas.Grind.{get_or-set_at}
 use Rattle.std.proofs.lemmas.List.{length-set}
-use Rattle.std.proofs.Math.Bool.{or-false, and-false, and-true}
+use Rattle.std.proofs.Math.Bool.{or-false, and-false}
 use Rattle.std.proofs.lemmas.Bool.{cases_eq, cases_lt, eq-eqb, ne_eqb, lt-ltb, false≢true}
 use Rattle.league.specs.Limits.{max_rounds}
 use Rattle.league.specs.Sets.{has, IsBelow}
 use Rattle.league.specs.within.Sets.{IsWithoutLowest}
 use Rattle.league.specs.Sums.{sum_where, count_where, any_below}
 use Rattle.league.specs.declared.rule.Side.{Side}
-use Rattle.league.proofs.ForCallers.{has_beyond, has_empty, lowest_gone, others_kept, sum_where_same, count_where_same}
+use Rattle.league.proofs.ForCallers.{has_beyond, others_kept, sum_where_same, count_where_same}
 use Rattle.fixtures.specs.declared.game.Cell.{Cell}
 use Rattle.fixtures.specs.Games.{Games, round_count, cell, IsCell, IsDoubleRoundRobin}
 use Rattle.fixtures.proofs.ForCallers.{cell_is, is_cell, pair_swapped}
 use Rattle.robinx.specs.Deviations.{over, is_on_side, is_counted, games_in_window}
 use Rattle.robinx.specs.within.Walked.{IsRow}
+use Rattle.robinx.proofs.walks.Left.{IsLeft, gone, gone_none, gone_all, gone_before, gone_now, gone_same}
 
 pub same_when : (a b : Bool) → (a ≡ true → b ≡ true) → (b ≡ true → a ≡ true) → a ≡ b
 same_when true b there back = sym (there refl)
@@ -36,50 +37,6 @@ opponents_game g rr t r in_t in_r = by_home (cell g t r).opponent (cell g t r).h
     by_home o false is =
         cell_is g rr o r (record { opponent = t; home = true })
         (record { pair = pair_swapped g.teams t o is.pair; in_round = is.in_round })
-
--- in a loop over a set some are left
-pub record IsLeft (n all left : ℕ) : Type 0 where
-  pub below : IsBelow n left
-  pub within : (k : ℕ) → has left k ≡ true → has all k ≡ true
-
-pub left_whole : (n all left : ℕ) → IsBelow n all → left ≡ all → IsLeft n all left
-left_whole n all left below same = record {
-  below = rw same below;
-  within = λ k here. ap (λ s. has s k) (sym same) ∙ here;
-}
-
-pub left_fewer : (n all left lowest rest : ℕ) → IsLeft n all left → IsWithoutLowest left lowest rest → IsLeft n all rest
-left_fewer n all left lowest rest so_far taken = record {
-  below = omega (arith, so_far.below, taken.fewer);
-  within = λ k here. elim (cases_eq k lowest) [
-    | inl same ↦ absurd (false≢true (sym (lowest_gone left lowest rest taken) ∙ ap (has rest) (sym same) ∙ here))
-    | inr apart ↦ so_far.within k (sym (others_kept left lowest rest k taken apart) ∙ here)
-  ];
-}
-
--- those that aren't left
-abbrev pub gone : ℕ → ℕ → ℕ → Bool
-gone all left k = has all k && not (has left k)
-
-gone_none : (all left k : ℕ) → left ≡ all → gone all left k ≡ false
-gone_none all left k same = ap (λ s. has all k && not (has s k)) same ∙ neither (has all k)
-  where
-    neither : (b : Bool) → (b && not b) ≡ false
-    neither true = refl
-    neither false = refl
-
-gone_all : (all left k : ℕ) → left ≡ 0 → gone all left k ≡ has all k
-gone_all all left k none = ap (λ b. has all k && not b) (ap (λ s. has s k) none ∙ has_empty k) ∙ and-true (has all k)
-
-module _ (n all left lowest rest : ℕ) (so_far : IsLeft n all left) (taken : IsWithoutLowest left lowest rest) where
-  gone_before : gone all left lowest ≡ false
-  gone_before = ap (λ b. has all lowest && not b) taken.in_set ∙ and-false (has all lowest)
-
-  gone_now : gone all rest lowest ≡ true
-  gone_now = rw (so_far.within lowest taken.in_set, lowest_gone left lowest rest taken) refl
-
-  gone_same : (k : ℕ) → k ≢ lowest → gone all rest k ≡ gone all left k
-  gone_same k apart = ap (λ b. has all k && not b) (others_kept left lowest rest k taken apart)
 
 -- a row has those of the teams that aren't left whose games count
 abbrev pub IsOwnRow : Games → Side → ℕ → ℕ → ℕ → ℕ → ℕ → Type 0

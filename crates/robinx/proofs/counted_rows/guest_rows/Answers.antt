@@ -1,6 +1,7 @@
 use Rattle.std.proofs.Common.{◌+◌, arith}
 use Rattle.league.proofs.ForCallers.{lowest_below}
-use Rattle.robinx.proofs.rows.RowsByRounds.{left_whole, left_fewer, guests_none, guests_more, guests_all}
+use Rattle.robinx.proofs.rows.RowsByRounds.{guests_none, guests_more, guests_all}
+use Rattle.robinx.proofs.walks.Left.{left_whole, left_fewer}
 use Rattle.robinx.proofs.counted_rows.guest_rows.Goals as goal
 
 pub loop-opponent-init : goal.loop-opponent-init

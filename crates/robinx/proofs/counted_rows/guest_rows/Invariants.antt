@@ -1,5 +1,6 @@
 use Rattle.std.specs.Prelude.{◌+◌}
-use Rattle.robinx.proofs.rows.RowsByRounds.{IsLeft, IsGuestRow}
+use Rattle.robinx.proofs.rows.RowsByRounds.{IsGuestRow}
+use Rattle.robinx.proofs.walks.Left.{IsLeft}
 use Rattle.robinx.proofs.counted_rows.guest_rows.Given as goal
 
 abbrev pub invariant-loop-opponent : goal.invariant-loop-opponent

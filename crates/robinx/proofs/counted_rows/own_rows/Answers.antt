@@ -1,6 +1,7 @@
 use Rattle.std.proofs.Common.{◌+◌}
 use Rattle.league.proofs.ForCallers.{lowest_below}
-use Rattle.robinx.proofs.rows.RowsByRounds.{left_fewer, own_more}
+use Rattle.robinx.proofs.rows.RowsByRounds.{own_more}
+use Rattle.robinx.proofs.walks.Left.{left_fewer}
 use Rattle.robinx.proofs.counted_rows.own_rows.Goals as goal
 
 pub with_own-first-requires-clause-team : goal.with_own-first-requires-clause-team

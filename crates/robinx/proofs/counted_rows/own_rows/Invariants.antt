@@ -1,5 +1,6 @@
 use Rattle.std.specs.Prelude.{◌+◌}
-use Rattle.robinx.proofs.rows.RowsByRounds.{IsLeft, IsOwnRow}
+use Rattle.robinx.proofs.rows.RowsByRounds.{IsOwnRow}
+use Rattle.robinx.proofs.walks.Left.{IsLeft}
 use Rattle.robinx.proofs.counted_rows.own_rows.Given as goal
 
 abbrev pub invariant-loop-team : goal.invariant-loop-team
