@@ -1,5 +1,5 @@
 -- What is kept of the rules' deviations, from one schedule to the next.
-use Rattle.std.proofs.Common.{◌≡◌, ◌≢◌, ℕ, ◌+◌, ◌<◌, ◌&&◌, ◌||◌, ◌==◌, not, Bool, true, false, if◌then◌else◌, List, length, get_or, Option, Some, None, slice_get, slice_set}
+use Rattle.std.proofs.Common.{◌≡◌, ◌≢◌, ℕ, ◌+◌, ◌<◌, ◌&&◌, ◌==◌, not, Bool, true, false, if◌then◌else◌, List, length, get_or, Option, Some, None, slice_get, slice_set}
 use Rattle.std.proofs.Common.{IfSome, true≢false, refl, sym, ◌∙◌, ap, ap₂, subst, inl, inr, arith}
 use Rattle.std.specs.Option.{is_none, is_some}
 use Rattle.std.specs.Prelude.{slice_index}
@@ -105,9 +105,9 @@ rest_more rules scope walked left lowest rest g next rule d within taken at one 
       so_far k other there in_scope (sym (others_kept left lowest rest k taken elsewhere) ∙ gone)
 ]
 
--- of the rules that an exchange can alter, those that may be broken
-abbrev pub AreMaybeBroken : Scope → Bool → ℕ → ℕ → Type 0
-AreMaybeBroken scope known broken walked = (i : ℕ) → has walked i ≡ (has scope.rules i && (not known || has broken i))
+-- of the rules that an exchange can alter, those that are broken
+abbrev pub AreBroken : Scope → ℕ → ℕ → Type 0
+AreBroken scope broken walked = (i : ℕ) → has walked i ≡ (has scope.rules i && has broken i)
 
 -- a rule that isn't broken has no deviation
 pub no_deviation : (g : Games) (rule : Rule) (kept : List ℕ) (i : ℕ) → slice_index kept i ≡ deviation g rule.body →
@@ -121,7 +121,7 @@ no_part g scope rule zero = omega (arith, part_le g scope.main.teams scope.main.
 
 -- so what is put down of all that it can alter, if the deviations are known
 pub rests_all : (rules : List Rule) (scope : Scope) (walked left : ℕ) (g : Games) (kept next : List ℕ) (broken : ℕ) → left ≡ 0 →
-    AreMaybeBroken scope true broken walked → AreDeviations rules g (record { each = kept; broken = broken }) →
+    AreBroken scope broken walked → AreDeviations rules g (record { each = kept; broken = broken }) →
     RestsWithout rules scope walked left g next → AreRests rules scope (has scope.rules) g kept next
 rests_all rules scope walked left g kept next broken none members are rests i rule at in_scope =
     ap (λ b. if b then rest_at kept next i + part else slice_index next i) in_scope ∙ by_test (has broken i) refl

@@ -1,5 +1,6 @@
 -- What of the known deviations stays whatever an exchange does, added rule by rule to the cost without them.
-use Rattle.std.proofs.Common.{◌≡◌, ℕ, ◌+◌, ◌-◌, ◌*◌, ◌<◌, ◌≤◌, Bool, true, false, if◌then◌else◌, length, slice_get, Option, Some, None, refl, sym, ◌∙◌, ap, arith}
+use Rattle.std.proofs.Common.{◌≡◌, ℕ, ◌+◌, ◌-◌, ◌*◌, ◌<◌, ◌≤◌, Bool, true, false, if◌then◌else◌, List, length, get_or, slice_get, Option, Some, None, refl, sym, ◌∙◌}
+use Rattle.std.proofs.Common.{ap, ap₂, arith}
 use Rattle.league.specs.League.{LeagueData, teams, IsLeague}
 use Rattle.league.specs.Sets.{has, IsBelow}
 use Rattle.league.specs.within.Sets.{IsWithoutLowest}
@@ -20,7 +21,7 @@ use Rattle.costs.specs.declared.cost.Cost.{Cost}
 use Rattle.costs.specs.declared.penalties.Penalties.{Penalties}
 use Rattle.costs.specs.declared.scope.Scope.{Scope}
 use Rattle.costs.specs.declared.weights.Weights.{Weights}
-use Rattle.costs.proofs.KeptDeviations.{AreMaybeBroken}
+use Rattle.costs.proofs.KeptDeviations.{AreBroken}
 use Rattle.costs.proofs.PartLimits.{hard_nothing, soft_nothing}
 use Rattle.costs.proofs.Walked.{all_of_broken, part_of_broken, unbroken_nothing, walked}
 use Rattle.costs.proofs.Parts.{games_le, near_le, hard_even, soft_even, least_after, rest_after, same_cost, IsEven}
@@ -111,6 +112,14 @@ rest_grows l scope g predicted halves set left index fewer rest next rule so_far
           (omega (arith, ap (λ (cost : Cost). cost.soft) so_far.is, soft, soft_at, soft_without));
     }
 
+-- what is left of a known deviation without the part
+pub stays_told : (l : LeagueData) (scope : Scope) (g : Games) (held : KeptDeviations) (kept : List ℕ) (i part : ℕ) (rule : Rule) →
+    AreKeptDeviations l.rules g held → held.is_known ≡ true → kept ≡ held.kept → slice_get l.rules i ≡ Some rule →
+    part ≡ deviation_part g scope.main.teams scope.main.rounds scope.flipping rule.body →
+    get_or kept i 0 - part ≡ deviation g rule.body - deviation_part g scope.main.teams scope.main.rounds scope.flipping rule.body
+stays_told l scope g held kept i part rule are known same at part_is =
+    ap₂ (λ a b. a - b) (ap (λ all. get_or all i 0) same ∙ (are.deviations known).each i rule at) part_is
+
 -- what is added next fits
 pub record AddsWithin (scope : Scope) (g : Games) (rest : Cost) (rule : Rule) : Type 0 where
   pub hard : rest.hard + rule_stays hard_penalty scope g (Some rule) < 2 * score_limit
@@ -164,16 +173,16 @@ pub record ArePartsOf (l : LeagueData) (scope : Scope) (g : Games) (set : ℕ) :
 -- the schedule before an exchange and what is known on it
 module _ (l : LeagueData) (scope : Scope) (g : Games) (held : KeptDeviations) (set : ℕ) (is : IsLeague l) (same : teams l ≡ g.teams)
     (robin : IsDoubleRoundRobin g) (knows : KnowsRules l scope) (deviations : AreKeptDeviations l.rules g held)
-    (members : AreMaybeBroken scope held.is_known held.broken set) where
+    (is_known : held.is_known ≡ true) (members : AreBroken scope held.broken set) where
   pub parts_of_broken : ArePartsOf l scope g set
   parts_of_broken = record {
     hard =
         unbroken_nothing (rule_part hard_penalty scope.main scope.flipping g) l scope g held set
-        (part_of_broken hard_penalty hard_nothing scope g) deviations members ∙
+        (part_of_broken hard_penalty hard_nothing scope g) deviations is_known members ∙
         walked hard_penalty hard_nothing l scope g is same robin knows;
     soft =
         unbroken_nothing (rule_part soft_penalty scope.main scope.flipping g) l scope g held set
-        (part_of_broken soft_penalty soft_nothing scope g) deviations members ∙
+        (part_of_broken soft_penalty soft_nothing scope g) deviations is_known members ∙
         walked soft_penalty soft_nothing l scope g is same robin knows;
   }
 
@@ -197,12 +206,12 @@ module _ (l : LeagueData) (scope : Scope) (g : Games) (held : KeptDeviations) (s
 
 -- all that the rules add which the exchange can alter, those that aren't broken add nothing
 pub known_of_broken : (l : LeagueData) (scope : Scope) (g : Games) (held : KeptDeviations) (set : ℕ) (known : Penalties) →
-    AreKeptDeviations l.rules g held → AreMaybeBroken scope held.is_known held.broken set → known ≡ alterable_penalties l scope g →
+    AreKeptDeviations l.rules g held → held.is_known ≡ true → AreBroken scope held.broken set → known ≡ alterable_penalties l scope g →
     (known.hard ≡ sum_where (length l.rules) (has set) (λ i. penalty_of hard_penalty g (slice_get l.rules i))) ×
     (known.soft ≡ sum_where (length l.rules) (has set) (λ i. penalty_of soft_penalty g (slice_get l.rules i)))
-known_of_broken l scope g held set known deviations members all = (
+known_of_broken l scope g held set known deviations is_known members all = (
   ap (λ (p : Penalties). p.hard) all ∙
-      sym (unbroken_nothing (penalty_of hard_penalty g) l scope g held set (all_of_broken hard_penalty hard_nothing g) deviations members),
+      sym (unbroken_nothing (penalty_of hard_penalty g) l scope g held set (all_of_broken hard_penalty hard_nothing g) deviations is_known members),
   ap (λ (p : Penalties). p.soft) all ∙
-      sym (unbroken_nothing (penalty_of soft_penalty g) l scope g held set (all_of_broken soft_penalty soft_nothing g) deviations members),
+      sym (unbroken_nothing (penalty_of soft_penalty g) l scope g held set (all_of_broken soft_penalty soft_nothing g) deviations is_known members),
 )

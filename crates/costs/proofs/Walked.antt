@@ -1,5 +1,5 @@
 -- A walk over the rules that an exchange can alter counts what all rules do.
-use Rattle.std.proofs.Common.{◌≡◌, ℕ, ◌||◌, ◌&&◌, ◌==◌, not, Bool, true, false, if◌then◌else◌, length, slice_get, Option, Some, None, refl, sym, ◌∙◌, ap, ◌≤◌, arith}
+use Rattle.std.proofs.Common.{◌≡◌, ℕ, ◌||◌, ◌&&◌, ◌==◌, Bool, true, false, if◌then◌else◌, length, slice_get, Option, Some, None, refl, sym, ◌∙◌, ap, ◌≤◌, arith}
 use Rattle.std.proofs.lemmas.Bool.{and_parts}
 use Rattle.league.specs.League.{LeagueData, teams, IsLeague}
 use Rattle.league.specs.Sets.{has}
@@ -21,7 +21,7 @@ use Rattle.costs.specs.declared.scope.Scope.{Scope}
 use Rattle.costs.specs.declared.weights.Weights.{Weights}
 use Rattle.robinx.specs.Deviations.{deviation}
 use Rattle.costs.specs.Costs.{cost_of, hard_penalty, penalty_of, score_by, soft_penalty}
-use Rattle.costs.proofs.KeptDeviations.{AreMaybeBroken, no_deviation, no_part}
+use Rattle.costs.proofs.KeptDeviations.{AreBroken, no_deviation, no_part}
 use Rattle.costs.proofs.PartLimits.{hard_grows, hard_nothing, rule_part_le, soft_grows, soft_nothing, where_le, Grows}
 use Rattle.costs.proofs.Parts.{least_after, rule_for}
 
@@ -84,21 +84,20 @@ all_of_broken penalty nothing g (Some rule) zero = ap (penalty rule.weight) (zer
 
 -- rules that are known not to be broken add nothing
 pub unbroken_nothing : (added : Option Rule → ℕ) (l : LeagueData) (scope : Scope) (g : Games) (held : KeptDeviations) (set : ℕ) →
-    IsOfBroken g added → AreKeptDeviations l.rules g held → AreMaybeBroken scope held.is_known held.broken set →
+    IsOfBroken g added → AreKeptDeviations l.rules g held → held.is_known ≡ true → AreBroken scope held.broken set →
     sum_where (length l.rules) (has set) (λ i. added (slice_get l.rules i)) ≡
     sum_where (length l.rules) (has scope.rules) (λ i. added (slice_get l.rules i))
-unbroken_nothing added l scope g held set nothing are members =
+unbroken_nothing added l scope g held set nothing are known members =
     sum_below_same (length l.rules) _ _
     (λ i below. ap (λ (b : Bool). if b then added (slice_get l.rules i) else 0) (members i) ∙
-    at i (slice_get l.rules i) refl (has scope.rules i) held.is_known (has held.broken i) refl refl)
+    at i (slice_get l.rules i) refl (has scope.rules i) (has held.broken i) refl)
   where
-    at : (i : ℕ) (rule : Option Rule) → slice_get l.rules i ≡ rule → (a known broken : Bool) → held.is_known ≡ known → has held.broken i ≡ broken →
-        (if a && (not known || broken) then added rule else 0) ≡ (if a then added rule else 0)
-    at i rule at_i false known broken k b = refl
-    at i rule at_i true false broken k b = refl
-    at i rule at_i true true true k b = refl
-    at i rule at_i true true false k b =
-        let held_are = are.deviations k in
+    at : (i : ℕ) (rule : Option Rule) → slice_get l.rules i ≡ rule → (a broken : Bool) → has held.broken i ≡ broken →
+        (if a && broken then added rule else 0) ≡ (if a then added rule else 0)
+    at i rule at_i false broken b = refl
+    at i rule at_i true true b = refl
+    at i rule at_i true false b =
+        let held_are = are.deviations known in
         sym (nothing rule
         (λ r is. no_deviation g r held.kept i (held_are.each i r (at_i ∙ is)) (sym b ∙ held_are.broken i r (at_i ∙ is))))
 

@@ -18,6 +18,7 @@ use crate::rule_costs::{known_penalties, parts_of_rules, with_rules};
 use crate::scope::Scope;
 use fixtures::{Schedule, Touched};
 use league::League;
+use robinx::deviation_part;
 use tours::unphased_part;
 
 /// A predicted cost without so many pairs in one half, and without these penalties of rules.
@@ -64,7 +65,7 @@ pub(crate) fn rest_within(
     if deviations.is_known {
         return rest_of_known(schedule, league, deviations, scope, predicted, halves);
     }
-    let parts = parts_of_rules(schedule, league, deviations, scope);
+    let parts = parts_of_rules(schedule, league, &mut deviations.counts, scope);
     let rest = without(predicted, halves, parts);
     if rest.score_by(weights) > limit {
         return None;
@@ -100,16 +101,19 @@ fn rest_of_known(
 {
     prove_eq!(league.teams(), schedule.teams());
     let (weights, limit) = (scope.attempt.weights, scope.attempt.limit);
-    let known = known_penalties(schedule, league, deviations, scope);
-    let mut rest = without(predicted, halves, known);
-    let rules = deviations.maybe_broken(scope.rules);
-    for i in rules {
+    let penalties = known_penalties(schedule, league, deviations, scope);
+    let mut rest = without(predicted, halves, penalties);
+    let broken = scope.rules.intersection(deviations.broken);
+    for i in broken {
         if rest.score_by(weights) > limit {
             return None;
         }
         let rule = league.rule(i);
-        let part = deviations.part_before(schedule, rule, i, scope);
-        let stays = deviations.kept[i].saturating_sub(part as u32);
+        let kept = deviations.kept[i];
+        let counts = &mut deviations.counts;
+        let known = Some(u64::from(kept));
+        let part = deviation_part(schedule, rule, scope.main, scope.flipping, known, counts);
+        let stays = kept.saturating_sub(part as u32);
         deviations.next[i] = stays;
         let added = Penalties::of_rule(rule.weight, u64::from(stays));
         rest.hard += added.hard;

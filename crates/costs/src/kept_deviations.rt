@@ -85,18 +85,6 @@ impl KeptDeviations {
         self.is_known = true;
     }
 
-    /// Of some rules those that may be broken: all of them if the deviations aren't known.
-    pub(crate) fn maybe_broken(&self, rules: RuleSet) -> RuleSet
-        ensures members { (i : ℕ) → has result i ≡ (has rules i && (not self.now.is_known || has self.now.broken i)) }
-        ensures below { (m : ℕ) → IsBelow m rules → IsBelow m result }
-    {
-        if self.is_known {
-            rules.intersection(self.broken)
-        } else {
-            rules
-        }
-    }
-
     /// What is put down of a rule's deviation, of one that isn't broken nothing.
     pub(crate) fn rest(&self, i: usize) -> u32
         requires kept { i < length self.now.kept }
@@ -104,31 +92,6 @@ impl KeptDeviations {
         ensures { result ≡ rest_at self.now.kept self.now.next i }
     {
         if self.kept[i] == 0 { 0 } else { self.next[i] }
-    }
-
-    /// The part of a rule's deviation that the exchange can alter, before it. Nothing is counted where the deviation is known and all of it is the part.
-    pub(crate) fn part_before(
-        &mut self,
-        schedule: &Schedule,
-        rule: &Rule,
-        i: usize,
-        scope: &Scope<'_>,
-    ) -> u64
-        requires body { IsBodyFor schedule.now.teams rule.now.body }
-        requires index { i < length self.old.kept }
-        requires kept { self.old.is_known ≡ true → slice_index self.old.kept i ≡ deviation schedule.now rule.now.body }
-        ensures value { result ≡ deviation_part schedule.now scope.now.main.teams scope.now.main.rounds scope.now.flipping rule.now.body }
-        ensures below { result < deviation_limit }
-        ensures same { IsKeptOf self.new self.old }
-        ensures next { self.new.next ≡ self.old.next }
-    {
-        let known = if self.is_known {
-            Some(u64::from(self.kept[i]))
-        } else {
-            None
-        };
-        let counts = &mut self.counts;
-        deviation_part(schedule, rule, scope.main, scope.flipping, known, counts)
     }
 
     /// Keeps the deviations after the exchange of the rules that it can alter, of so many rules.

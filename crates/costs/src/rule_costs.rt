@@ -14,7 +14,7 @@ use crate::penalties::Penalties;
 use crate::scope::Scope;
 use fixtures::Schedule;
 use league::{League, RuleSet};
-use robinx::{deviation, deviation_part};
+use robinx::{HomeCounts, deviation, deviation_part};
 
 /// Adds up the penalties of the rules in a schedule.
 #[tactic(auto, using(league::proofs::ForCallers::sums), unfolding(crate::specs::Costs::sum_over_rules))]
@@ -50,7 +50,7 @@ pub(crate) fn known_penalties(
 {
     prove_eq!(league.teams(), schedule.teams());
     let mut costs = Penalties { hard: 0, soft: 0 };
-    for i in deviations.maybe_broken(scope.rules) {
+    for i in scope.rules.intersection(deviations.broken) {
         let rule = league.rule(i);
         let added = Penalties::of_rule(rule.weight, u64::from(deviations.kept[i]));
         costs.hard += added.hard;
@@ -59,32 +59,25 @@ pub(crate) fn known_penalties(
     costs
 }
 
-/// The part of these that the exchange of the scope can alter. Of rules that are known not to be broken it is 0. Each other one's deviation
-/// without the part goes into the deviations.
+/// The part of these that the exchange of the scope can alter, of rules whose deviations aren't known.
 pub(crate) fn parts_of_rules(
     schedule: &Schedule,
     league: &League,
-    deviations: &mut KeptDeviations,
+    counts: &mut HomeCounts,
     scope: &Scope<'_>,
 ) -> Penalties
     requires same_size { teams league.now ≡ schedule.now.teams }
     requires rules { KnowsRules league.now scope.now }
-    requires deviations { AreKeptDeviations league.now.rules schedule.now deviations.old }
     ensures hard { result.hard ≡ rules_part hard_penalty league.now.rules scope.now.main scope.now.flipping schedule.now }
     ensures soft { result.soft ≡ rules_part soft_penalty league.now.rules scope.now.main scope.now.flipping schedule.now }
     ensures hard_most { result.hard ≤ max_rules * deviation_limit }
     ensures soft_most { result.soft ≤ max_rules * (max_weight * deviation_limit) }
-    ensures deviations { AreKeptDeviations league.now.rules schedule.now deviations.new }
-    ensures same { IsKeptOf deviations.new deviations.old }
-    ensures rests { deviations.new.is_known ≡ true → AreRests league.now.rules scope.now (has scope.now.rules) schedule.now deviations.new.kept deviations.new.next }
 {
     prove_eq!(league.teams(), schedule.teams());
     let mut costs = Penalties { hard: 0, soft: 0 };
-    let rules = deviations.maybe_broken(scope.rules);
-    for i in rules {
+    for i in scope.rules {
         let rule = league.rule(i);
-        let part = deviations.part_before(schedule, rule, i, scope);
-        deviations.next[i] = deviations.kept[i].saturating_sub(part as u32);
+        let part = deviation_part(schedule, rule, scope.main, scope.flipping, None, counts);
         let added = Penalties::of_rule(rule.weight, part);
         costs.hard += added.hard;
         costs.soft += added.soft;

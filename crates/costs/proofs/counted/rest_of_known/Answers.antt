@@ -1,14 +1,13 @@
-use Rattle.std.proofs.Common.{◌≡◌, ◌&&◌, ◌||◌, ◌-◌, ◌+◌, not, ◌<◌, length, get_or, refl, ◌∙◌, sym, ap, ap₂, true, true≢false, arith}
+use Rattle.std.proofs.Common.{◌≡◌, ◌+◌, ◌<◌, length, refl, ◌∙◌, sym, ap, true, true≢false, arith}
 use Rattle.std.proofs.lemmas.List.{length-set}
-use Rattle.league.specs.Limits.{deviation_limit, max_rules}
+use Rattle.league.specs.Limits.{deviation_limit}
 use Rattle.league.specs.Sets.{has, IsBelow}
 use Rattle.league.proofs.ForCallers.{lowest_below}
 use Rattle.robinx.specs.Deviations.{deviation}
-use Rattle.robinx.specs.Parts.{deviation_part}
 use Rattle.robinx.proofs.ForCallers.{deviation_below, part_le}
 use Rattle.costs.specs.Costs.{hard_penalty, soft_penalty}
 use Rattle.costs.proofs.KeptDeviations.{rest_more, rests_all}
-use Rattle.costs.proofs.KnownRests.{adds_within, known_of_broken, rest_begun, rest_grows, rest_scores_less, rest_whole}
+use Rattle.costs.proofs.KnownRests.{adds_within, known_of_broken, rest_begun, rest_grows, rest_scores_less, rest_whole, stays_told}
 use Rattle.costs.proofs.PartLimits.{hard_fits, of_rules_fits, soft_fits}
 use Rattle.costs.proofs.Parts.{rule_for, score_fits_after}
 use Rattle.costs.proofs.counted.rest_of_known.Goals as goal
@@ -19,7 +18,7 @@ without-rest-requires-clause-hard c =
       arith,
       hard_fits c.args.league.now c.args.scope.now c.args.schedule.now _ _ c.requires.predicted,
       c.requires.halves,
-      ap (λ p. p.hard) c.known_penalties-known.ensures,
+      ap (λ p. p.hard) c.known_penalties-penalties.ensures,
     )
 
 pub without-rest-requires-clause-of_rules : goal.without-rest-requires-clause-of_rules
@@ -27,7 +26,7 @@ without-rest-requires-clause-of_rules c =
     omega (
       arith,
       of_rules_fits c.args.league.now c.args.scope.now c.args.schedule.now _ _ c.requires.predicted,
-      ap (λ p. p.hard) c.known_penalties-known.ensures,
+      ap (λ p. p.hard) c.known_penalties-penalties.ensures,
     )
 
 pub without-rest-requires-clause-soft : goal.without-rest-requires-clause-soft
@@ -35,17 +34,17 @@ without-rest-requires-clause-soft c =
     omega (
       arith,
       soft_fits c.args.league.now c.args.scope.now c.args.schedule.now _ _ c.requires.predicted,
-      ap (λ p. p.soft) c.known_penalties-known.ensures,
+      ap (λ p. p.soft) c.known_penalties-penalties.ensures,
     )
 
 pub loop-i-init : goal.loop-i-init
 loop-i-init c =
     let below : IsBelow (length c.args.league.now.rules) c.into_iter-i-iterator.result =
-    rw c.into_iter-i-iterator.ensures.into_iter_gives (c.maybe_broken-rules.ensures.below _ c.requires.rules.below) in
+    rw c.into_iter-i-iterator.ensures.into_iter_gives (c.intersection-broken.ensures.below _ c.requires.rules.below) in
     let known = known_of_broken c.args.league.now c.args.scope.now c.args.schedule.now c.args.deviations.now c.into_iter-i-iterator.result _
-    c.requires.deviations
-    (λ i. ap (λ set. has set i) c.into_iter-i-iterator.ensures.into_iter_gives ∙ c.maybe_broken-rules.ensures.members i)
-    c.known_penalties-known.ensures in
+    c.requires.deviations c.requires.known
+    (λ i. ap (λ set. has set i) c.into_iter-i-iterator.ensures.into_iter_gives ∙ c.intersection-broken.ensures.members i)
+    c.known_penalties-penalties.ensures in
     record {
       rest = rest_begun _ _ _ _ _ _ _ _ _ below refl c.without-rest.ensures known.0 known.1;
       same = record { known = refl; kept = refl; broken = refl };
@@ -58,8 +57,8 @@ score_by-requires c =
     omega (
       arith,
       rest_scores_less c.args.league.now c.args.scope.now c.args.schedule.now c.args.deviations.now c.into_iter-i-iterator.result
-          c.teams.ensures.limits c.requires.same_size c.teams-2.ensures.round_robin c.requires.rules c.requires.deviations
-          (λ i. ap (λ set. has set i) c.into_iter-i-iterator.ensures.into_iter_gives ∙ c.maybe_broken-rules.ensures.members i)
+          c.teams.ensures.limits c.requires.same_size c.teams-2.ensures.round_robin c.requires.rules c.requires.deviations c.requires.known
+          (λ i. ap (λ set. has set i) c.into_iter-i-iterator.ensures.into_iter_gives ∙ c.intersection-broken.ensures.members i)
           c.args.predicted c.args.halves c.loop-i.i-iterator c.loop-i.rest c.requires.scope c.requires.predicted c.requires.halves
           c.loop-i.invariant.rest c.args.scope.now.attempt.weights,
       score_fits_after c.args.league.now c.args.schedule.now c.args.scope.now.attempt.exchange.now c.args.scope.now.attempt.weights
@@ -71,8 +70,8 @@ returns-then-score_by-limit-clause-rest c =
     omega (
       arith,
       rest_scores_less c.args.league.now c.args.scope.now c.args.schedule.now c.args.deviations.now c.into_iter-i-iterator.result
-          c.teams.ensures.limits c.requires.same_size c.teams-2.ensures.round_robin c.requires.rules c.requires.deviations
-          (λ i. ap (λ set. has set i) c.into_iter-i-iterator.ensures.into_iter_gives ∙ c.maybe_broken-rules.ensures.members i)
+          c.teams.ensures.limits c.requires.same_size c.teams-2.ensures.round_robin c.requires.rules c.requires.deviations c.requires.known
+          (λ i. ap (λ set. has set i) c.into_iter-i-iterator.ensures.into_iter_gives ∙ c.intersection-broken.ensures.members i)
           c.args.predicted c.args.halves c.loop-i.i-iterator c.loop-i.rest c.requires.scope c.requires.predicted c.requires.halves
           c.loop-i.invariant.rest c.args.scope.now.attempt.weights,
       c.score_by.ensures,
@@ -81,12 +80,6 @@ returns-then-score_by-limit-clause-rest c =
 
 pub rule-rule-requires : goal.rule-rule-requires
 rule-rule-requires c = lowest_below _ _ _ _ c.loop-i.invariant.rest.below c.in-Some.ensures.steps
-
-pub part_before-part-requires-clause-index : goal.part_before-part-requires-clause-index
-part_before-part-requires-clause-index c =
-    let below = lowest_below _ _ _ _ c.loop-i.invariant.rest.below c.in-Some.ensures.steps in
-    let length_is : length c.loop-i.deviations.kept ≡ max_rules = ap length c.loop-i.invariant.same.kept ∙ c.requires.deviations.kept_length in
-    omega (arith, below, c.teams.ensures.limits.rule_count, length_is)
 
 pub offset_bounds-deviations-i : goal.offset_bounds-deviations-i
 offset_bounds-deviations-i c =
@@ -107,14 +100,9 @@ bounds-deviations-i-in-loop-i c =
 pub of_rule-added-requires-clause-deviation : goal.of_rule-added-requires-clause-deviation
 of_rule-added-requires-clause-deviation c =
     let rule = c.rule-rule.result.now in
-    let step = c.part_before-part.ensures in
-    let kept : get_or c.part_before-part.new.self.kept c.in-Some.i 0 ≡ get_or c.args.deviations.now.kept c.in-Some.i 0 =
-    ap (λ kept. get_or kept c.in-Some.i 0) (step.same.kept ∙ c.loop-i.invariant.same.kept) in
-    let deviation_is : get_or c.args.deviations.now.kept c.in-Some.i 0 ≡ deviation c.args.schedule.now rule.body =
-    (c.requires.deviations.deviations c.requires.known).each c.in-Some.i rule c.rule-rule.ensures.value in
-    let stays : c.from.result ≡ deviation c.args.schedule.now rule.body -
-    deviation_part c.args.schedule.now c.args.scope.now.main.teams c.args.scope.now.main.rounds c.args.scope.now.flipping rule.body =
-    c.from.ensures ∙ c.saturating_sub-stays.ensures ∙ ap₂ (λ a b. a - b) (kept ∙ deviation_is) step.value in
+    let stays = c.from-in-loop-i.ensures ∙ c.saturating_sub-stays.ensures ∙
+    stays_told c.args.league.now c.args.scope.now c.args.schedule.now c.args.deviations.now _ c.in-Some.i _ rule c.requires.deviations c.requires.known
+    c.loop-i.invariant.same.kept c.rule-rule.ensures.value c.deviation_part-part.ensures.value in
     let small : deviation c.args.schedule.now rule.body < deviation_limit =
     deviation_below c.args.schedule.now rule.body (omega (arith, c.teams-2.ensures.number, c.teams-2.ensures.most))
     (rule_for c.args.league.now c.args.schedule.now c.in-Some.i c.teams.ensures.limits c.requires.same_size rule c.rule-rule.ensures.value) in
@@ -123,14 +111,9 @@ of_rule-added-requires-clause-deviation c =
 pub overflow_add-rest : goal.overflow_add-rest
 overflow_add-rest c =
     let rule = c.rule-rule.result.now in
-    let step = c.part_before-part.ensures in
-    let kept : get_or c.part_before-part.new.self.kept c.in-Some.i 0 ≡ get_or c.args.deviations.now.kept c.in-Some.i 0 =
-    ap (λ kept. get_or kept c.in-Some.i 0) (step.same.kept ∙ c.loop-i.invariant.same.kept) in
-    let deviation_is : get_or c.args.deviations.now.kept c.in-Some.i 0 ≡ deviation c.args.schedule.now rule.body =
-    (c.requires.deviations.deviations c.requires.known).each c.in-Some.i rule c.rule-rule.ensures.value in
-    let stays : c.from.result ≡ deviation c.args.schedule.now rule.body -
-    deviation_part c.args.schedule.now c.args.scope.now.main.teams c.args.scope.now.main.rounds c.args.scope.now.flipping rule.body =
-    c.from.ensures ∙ c.saturating_sub-stays.ensures ∙ ap₂ (λ a b. a - b) (kept ∙ deviation_is) step.value in
+    let stays = c.from-in-loop-i.ensures ∙ c.saturating_sub-stays.ensures ∙
+    stays_told c.args.league.now c.args.scope.now c.args.schedule.now c.args.deviations.now _ c.in-Some.i _ rule c.requires.deviations c.requires.known
+    c.loop-i.invariant.same.kept c.rule-rule.ensures.value c.deviation_part-part.ensures.value in
     let adds = adds_within c.args.league.now c.args.scope.now c.args.schedule.now c.args.predicted c.args.halves c.into_iter-i-iterator.result _ _ _
     c.loop-i.rest rule c.teams.ensures.limits c.requires.same_size c.requires.predicted c.loop-i.invariant.rest c.in-Some.ensures.steps
     c.rule-rule.ensures.value in
@@ -139,14 +122,9 @@ overflow_add-rest c =
 pub overflow_add-rest-in-loop-i : goal.overflow_add-rest-in-loop-i
 overflow_add-rest-in-loop-i c =
     let rule = c.rule-rule.result.now in
-    let step = c.part_before-part.ensures in
-    let kept : get_or c.part_before-part.new.self.kept c.in-Some.i 0 ≡ get_or c.args.deviations.now.kept c.in-Some.i 0 =
-    ap (λ kept. get_or kept c.in-Some.i 0) (step.same.kept ∙ c.loop-i.invariant.same.kept) in
-    let deviation_is : get_or c.args.deviations.now.kept c.in-Some.i 0 ≡ deviation c.args.schedule.now rule.body =
-    (c.requires.deviations.deviations c.requires.known).each c.in-Some.i rule c.rule-rule.ensures.value in
-    let stays : c.from.result ≡ deviation c.args.schedule.now rule.body -
-    deviation_part c.args.schedule.now c.args.scope.now.main.teams c.args.scope.now.main.rounds c.args.scope.now.flipping rule.body =
-    c.from.ensures ∙ c.saturating_sub-stays.ensures ∙ ap₂ (λ a b. a - b) (kept ∙ deviation_is) step.value in
+    let stays = c.from-in-loop-i.ensures ∙ c.saturating_sub-stays.ensures ∙
+    stays_told c.args.league.now c.args.scope.now c.args.schedule.now c.args.deviations.now _ c.in-Some.i _ rule c.requires.deviations c.requires.known
+    c.loop-i.invariant.same.kept c.rule-rule.ensures.value c.deviation_part-part.ensures.value in
     let adds = adds_within c.args.league.now c.args.scope.now c.args.schedule.now c.args.predicted c.args.halves c.into_iter-i-iterator.result _ _ _
     c.loop-i.rest rule c.teams.ensures.limits c.requires.same_size c.requires.predicted c.loop-i.invariant.rest c.in-Some.ensures.steps
     c.rule-rule.ensures.value in
@@ -155,14 +133,9 @@ overflow_add-rest-in-loop-i c =
 pub overflow_add-rest-in-loop-i-2 : goal.overflow_add-rest-in-loop-i-2
 overflow_add-rest-in-loop-i-2 c =
     let rule = c.rule-rule.result.now in
-    let step = c.part_before-part.ensures in
-    let kept : get_or c.part_before-part.new.self.kept c.in-Some.i 0 ≡ get_or c.args.deviations.now.kept c.in-Some.i 0 =
-    ap (λ kept. get_or kept c.in-Some.i 0) (step.same.kept ∙ c.loop-i.invariant.same.kept) in
-    let deviation_is : get_or c.args.deviations.now.kept c.in-Some.i 0 ≡ deviation c.args.schedule.now rule.body =
-    (c.requires.deviations.deviations c.requires.known).each c.in-Some.i rule c.rule-rule.ensures.value in
-    let stays : c.from.result ≡ deviation c.args.schedule.now rule.body -
-    deviation_part c.args.schedule.now c.args.scope.now.main.teams c.args.scope.now.main.rounds c.args.scope.now.flipping rule.body =
-    c.from.ensures ∙ c.saturating_sub-stays.ensures ∙ ap₂ (λ a b. a - b) (kept ∙ deviation_is) step.value in
+    let stays = c.from-in-loop-i.ensures ∙ c.saturating_sub-stays.ensures ∙
+    stays_told c.args.league.now c.args.scope.now c.args.schedule.now c.args.deviations.now _ c.in-Some.i _ rule c.requires.deviations c.requires.known
+    c.loop-i.invariant.same.kept c.rule-rule.ensures.value c.deviation_part-part.ensures.value in
     let adds = adds_within c.args.league.now c.args.scope.now c.args.schedule.now c.args.predicted c.args.halves c.into_iter-i-iterator.result _ _ _
     c.loop-i.rest rule c.teams.ensures.limits c.requires.same_size c.requires.predicted c.loop-i.invariant.rest c.in-Some.ensures.steps
     c.rule-rule.ensures.value in
@@ -171,14 +144,9 @@ overflow_add-rest-in-loop-i-2 c =
 pub loop-i-preserved : goal.loop-i-preserved
 loop-i-preserved c =
     let rule = c.rule-rule.result.now in
-    let step = c.part_before-part.ensures in
-    let kept : get_or c.part_before-part.new.self.kept c.in-Some.i 0 ≡ get_or c.args.deviations.now.kept c.in-Some.i 0 =
-    ap (λ kept. get_or kept c.in-Some.i 0) (step.same.kept ∙ c.loop-i.invariant.same.kept) in
-    let deviation_is : get_or c.args.deviations.now.kept c.in-Some.i 0 ≡ deviation c.args.schedule.now rule.body =
-    (c.requires.deviations.deviations c.requires.known).each c.in-Some.i rule c.rule-rule.ensures.value in
-    let stays : c.from.result ≡ deviation c.args.schedule.now rule.body -
-    deviation_part c.args.schedule.now c.args.scope.now.main.teams c.args.scope.now.main.rounds c.args.scope.now.flipping rule.body =
-    c.from.ensures ∙ c.saturating_sub-stays.ensures ∙ ap₂ (λ a b. a - b) (kept ∙ deviation_is) step.value in
+    let stays = c.from-in-loop-i.ensures ∙ c.saturating_sub-stays.ensures ∙
+    stays_told c.args.league.now c.args.scope.now c.args.schedule.now c.args.deviations.now _ c.in-Some.i _ rule c.requires.deviations c.requires.known
+    c.loop-i.invariant.same.kept c.rule-rule.ensures.value c.deviation_part-part.ensures.value in
     let taken = c.in-Some.ensures.steps in
     let below : c.in-Some.i < length c.args.league.now.rules = lowest_below _ _ _ _ c.loop-i.invariant.rest.below taken in
     let least = part_le c.args.schedule.now c.args.scope.now.main.teams c.args.scope.now.main.rounds c.args.scope.now.flipping rule.body in
@@ -189,18 +157,15 @@ loop-i-preserved c =
           taken c.rule-rule.ensures.value refl (ap (λ n. c.loop-i.rest.hard + n) hard) (ap (λ n. c.loop-i.rest.of_rules + n) hard)
           (ap (λ n. c.loop-i.rest.soft + n) soft);
       same = record {
-        known = step.same.known ∙ c.loop-i.invariant.same.known;
-        kept = step.same.kept ∙ c.loop-i.invariant.same.kept;
-        broken = step.same.broken ∙ c.loop-i.invariant.same.broken;
+        known = c.loop-i.invariant.same.known;
+        kept = c.loop-i.invariant.same.kept;
+        broken = c.loop-i.invariant.same.broken;
       };
-      next_length = length-set _ _ _ ∙ ap length step.next ∙ c.loop-i.invariant.next_length;
+      next_length = length-set _ _ _ ∙ c.loop-i.invariant.next_length;
       rests = λ known.
-          rw step.next
-          (rest_more c.args.league.now.rules c.args.scope.now _ _ _ _ c.args.schedule.now c.loop-i.deviations.next rule _
+          rest_more c.args.league.now.rules c.args.scope.now _ _ _ _ c.args.schedule.now c.loop-i.deviations.next rule _
           (omega (arith, below, c.teams.ensures.limits.rule_count, c.loop-i.invariant.next_length))
-          taken c.rule-rule.ensures.value
-          (omega (arith, c.saturating_sub-stays.ensures, step.value, deviation_is, kept, least))
-          (c.loop-i.invariant.rests (sym step.same.known ∙ known)));
+          taken c.rule-rule.ensures.value (omega (arith, stays, c.from-in-loop-i.ensures, least)) (c.loop-i.invariant.rests known);
     }
 
 pub score_by-requires-2 : goal.score_by-requires-2
@@ -208,8 +173,8 @@ score_by-requires-2 c =
     omega (
       arith,
       rest_scores_less c.args.league.now c.args.scope.now c.args.schedule.now c.args.deviations.now c.into_iter-i-iterator.result
-          c.teams.ensures.limits c.requires.same_size c.teams-2.ensures.round_robin c.requires.rules c.requires.deviations
-          (λ i. ap (λ set. has set i) c.into_iter-i-iterator.ensures.into_iter_gives ∙ c.maybe_broken-rules.ensures.members i)
+          c.teams.ensures.limits c.requires.same_size c.teams-2.ensures.round_robin c.requires.rules c.requires.deviations c.requires.known
+          (λ i. ap (λ set. has set i) c.into_iter-i-iterator.ensures.into_iter_gives ∙ c.intersection-broken.ensures.members i)
           c.args.predicted c.args.halves c.loop-i.i-iterator c.loop-i.rest c.requires.scope c.requires.predicted c.requires.halves
           c.loop-i.invariant.rest c.args.scope.now.attempt.weights,
       score_fits_after c.args.league.now c.args.schedule.now c.args.scope.now.attempt.exchange.now c.args.scope.now.attempt.weights
@@ -221,8 +186,8 @@ returns-then-score_by-limit-2-clause-rest c =
     omega (
       arith,
       rest_scores_less c.args.league.now c.args.scope.now c.args.schedule.now c.args.deviations.now c.into_iter-i-iterator.result
-          c.teams.ensures.limits c.requires.same_size c.teams-2.ensures.round_robin c.requires.rules c.requires.deviations
-          (λ i. ap (λ set. has set i) c.into_iter-i-iterator.ensures.into_iter_gives ∙ c.maybe_broken-rules.ensures.members i)
+          c.teams.ensures.limits c.requires.same_size c.teams-2.ensures.round_robin c.requires.rules c.requires.deviations c.requires.known
+          (λ i. ap (λ set. has set i) c.into_iter-i-iterator.ensures.into_iter_gives ∙ c.intersection-broken.ensures.members i)
           c.args.predicted c.args.halves c.loop-i.i-iterator c.loop-i.rest c.requires.scope c.requires.predicted c.requires.halves
           c.loop-i.invariant.rest c.args.scope.now.attempt.weights,
       c.score_by-2.ensures,
@@ -232,8 +197,8 @@ returns-then-score_by-limit-2-clause-rest c =
 pub returns-clause-rest : goal.returns-clause-rest
 returns-clause-rest c =
     rest_whole c.args.league.now c.args.scope.now c.args.schedule.now c.args.deviations.now c.into_iter-i-iterator.result
-    c.teams.ensures.limits c.requires.same_size c.teams-2.ensures.round_robin c.requires.rules c.requires.deviations
-    (λ i. ap (λ set. has set i) c.into_iter-i-iterator.ensures.into_iter_gives ∙ c.maybe_broken-rules.ensures.members i)
+    c.teams.ensures.limits c.requires.same_size c.teams-2.ensures.round_robin c.requires.rules c.requires.deviations c.requires.known
+    (λ i. ap (λ set. has set i) c.into_iter-i-iterator.ensures.into_iter_gives ∙ c.intersection-broken.ensures.members i)
     c.args.predicted c.args.halves c.loop-i.i-iterator c.loop-i.rest c.requires.scope c.requires.predicted c.requires.halves
     c.loop-i.invariant.rest c.in-None.ensures.steps.0
 
@@ -243,6 +208,5 @@ returns-clause-rests c = λ known.
     rw c.loop-i.invariant.same.kept
     (rests_all c.args.league.now.rules c.args.scope.now c.into_iter-i-iterator.result c.loop-i.i-iterator c.args.schedule.now
     c.args.deviations.now.kept c.loop-i.deviations.next c.args.deviations.now.broken c.in-None.ensures.steps.0
-    (λ i. ap (λ set. has set i) c.into_iter-i-iterator.ensures.into_iter_gives ∙ c.maybe_broken-rules.ensures.members i ∙
-    ap (λ b. has c.args.scope.now.rules i && (not b || has c.args.deviations.now.broken i)) was_known)
+    (λ i. ap (λ set. has set i) c.into_iter-i-iterator.ensures.into_iter_gives ∙ c.intersection-broken.ensures.members i)
     (c.requires.deviations.deviations was_known) (c.loop-i.invariant.rests known))

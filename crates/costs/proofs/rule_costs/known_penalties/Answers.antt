@@ -13,7 +13,7 @@ use Rattle.costs.proofs.rule_costs.known_penalties.Goals as goal
 pub loop-i-init : goal.loop-i-init
 loop-i-init c =
     let below : IsBelow (length c.args.league.now.rules) c.into_iter-i-iterator.result =
-    rw c.into_iter-i-iterator.ensures.into_iter_gives (c.maybe_broken-i-items.ensures.below _ c.requires.rules.below) in
+    rw c.into_iter-i-iterator.ensures.into_iter_gives (c.intersection-i-items.ensures.below _ c.requires.rules.below) in
     record {
       hard = sum_without_none _ _ _ _ _ below refl;
       soft = sum_without_none _ _ _ _ _ below refl;
@@ -55,13 +55,15 @@ loop-i-preserved c =
 pub returns : goal.returns
 returns c =
     rw (
-      sum_without_all _ _ _ _ _ (has c.maybe_broken-i-items.result) _ c.loop-i.invariant.hard c.in-None.ensures.steps.0
+      sum_without_all _ _ _ _ _ (has c.intersection-i-items.result) _ c.loop-i.invariant.hard c.in-None.ensures.steps.0
           (λ k below. ap (λ set. has set k) c.into_iter-i-iterator.ensures.into_iter_gives) ∙
           unbroken_nothing (penalty_of hard_penalty c.args.schedule.now) c.args.league.now c.args.scope.now c.args.schedule.now
-          c.args.deviations.now _ (all_of_broken hard_penalty hard_nothing c.args.schedule.now) c.requires.deviations c.maybe_broken-i-items.ensures.members,
-      sum_without_all _ _ _ _ _ (has c.maybe_broken-i-items.result) _ c.loop-i.invariant.soft c.in-None.ensures.steps.0
+          c.args.deviations.now _ (all_of_broken hard_penalty hard_nothing c.args.schedule.now) c.requires.deviations c.requires.known
+          c.intersection-i-items.ensures.members,
+      sum_without_all _ _ _ _ _ (has c.intersection-i-items.result) _ c.loop-i.invariant.soft c.in-None.ensures.steps.0
           (λ k below. ap (λ set. has set k) c.into_iter-i-iterator.ensures.into_iter_gives) ∙
           unbroken_nothing (penalty_of soft_penalty c.args.schedule.now) c.args.league.now c.args.scope.now c.args.schedule.now
-          c.args.deviations.now _ (all_of_broken soft_penalty soft_nothing c.args.schedule.now) c.requires.deviations c.maybe_broken-i-items.ensures.members,
+          c.args.deviations.now _ (all_of_broken soft_penalty soft_nothing c.args.schedule.now) c.requires.deviations c.requires.known
+          c.intersection-i-items.ensures.members,
     )
     refl
