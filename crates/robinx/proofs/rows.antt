@@ -6,3 +6,4 @@ pub mod GapTables
 pub mod FullWindows
 pub mod AllTeams
 pub mod MetPairs
+pub mod PairedStarts

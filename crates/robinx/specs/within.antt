@@ -1,3 +1,4 @@
 pub mod HomeTables
 pub mod GapTables
 pub mod Walked
+pub mod TeamWindows

@@ -100,7 +100,8 @@ fn four_rows(schedule: &Schedule, games: &CountedGames, round: u8) -> Four
     }
 }
 
-/// Four rows on a side, found by the games of the teams or of the opponents, whichever are fewer.
+/// Four rows on a side, found by the games of the teams if they are less than half as many as the opponents, and else by those of the
+/// opponents, which take fewer instructions each.
 #[inline(always)]
 fn rows_on_side(schedule: &Schedule, games: &CountedGames, side: Side, round: u8) -> Four
     requires round_robin { IsDoubleRoundRobin schedule.now }
@@ -112,7 +113,7 @@ fn rows_on_side(schedule: &Schedule, games: &CountedGames, side: Side, round: u8
     ensures fourth { IsRow schedule.now side games.now.opponents games.now.teams (round + 3) result.3 }
 {
     let opponents = TeamSet::below(schedule.teams()).intersection(games.opponents);
-    if games.teams.len() < opponents.len() {
+    if 2 * games.teams.len() < opponents.len() {
         own_rows(schedule, games.teams, side, games.opponents, round)
     } else {
         guest_rows(schedule, side, opponents, round)

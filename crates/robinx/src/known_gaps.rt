@@ -15,8 +15,7 @@ use crate::home_table::HomeTable;
 use fixtures::Schedule;
 use league::{SlotSet, TeamSet};
 
-/// How many tables are kept: one for all rules with the same slots. What these rules count is compared with one another many times, while
-/// of others all is counted each time.
+/// How many tables are kept, one for all rules with the same slots. What rules with more other slots count is compared each time.
 const TABLES: usize = 16;
 
 /// The home games of a schedule and what two teams' are apart, kept so that only those of teams that have flipped are compared anew.

@@ -1,12 +1,14 @@
 //! Windows of consecutive rounds, counted for many teams at once.
 
-ghost use Rattle.std.specs.Prelude.{◌≡◌, ℕ, ◌+◌, ◌-◌, ◌*◌, ◌<◌, ◌≤◌, length, slice_index};
+ghost use Rattle.std.specs.Prelude.{◌≡◌, ℕ, ◌+◌, ◌-◌, ◌*◌, ◌<◌, ◌≤◌, Bool, if◌then◌else◌, not, length, slice_index};
 ghost use Rattle.league.specs.Limits.{max_teams, max_rounds};
 ghost use Rattle.league.specs.Sets.{has, IsBelow};
 ghost use Rattle.league.specs.Sums.{sum_where, count_where};
 ghost use Rattle.robinx.specs.Deviations.{over};
+ghost use Rattle.robinx.specs.within.TeamWindows.{over_from, rows_lack, IsInRows};
 
 use crate::counted_rows::ROUNDS;
+use league::limits::MAX_ROUNDS;
 use league::{SlotSet, TeamSet};
 
 /// The rounds of each window that begins with one of the starts whose rows have a team, over the most, for each of the teams.
@@ -27,34 +29,100 @@ pub(crate) fn over_in_rows(
         result ≡ sum_where m (has starts) (λ first. sum_where n (has teams)
         (λ t. over (count_where window (λ k. has (slice_index rows.now (first + k)) t)) most)) }
 {
+    let length = usize::from(window);
     let mut total = 0;
+    // a start that is counted with the one before it, or past all
+    let mut counted = MAX_ROUNDS;
     for first in starts {
-        total += over_in_window(rows, teams, first, window, most);
+        if first == counted {
+            continue;
+        }
+        let next = first + 1;
+        if next < MAX_ROUNDS && starts.has(next) {
+            total += over_in_two(rows, teams, first.into(), length, most);
+            counted = next;
+        } else {
+            let in_rows = InRows::all(rows, teams, first.into(), length);
+            total += in_rows.over(length, most);
+        }
     }
     total
 }
 
-/// The rounds of the window whose rows have a team, over the most, for each of the teams: told by which teams the rows lack.
-#[inline]
-fn over_in_window(rows: &[TeamSet; ROUNDS], teams: TeamSet, first: u8, window: u8, most: u32) -> u64
+/// The same of two windows, the second of which begins a round later. The rows of both are looked at once.
+#[inline(always)]
+fn over_in_two(
+    rows: &[TeamSet; ROUNDS],
+    teams: TeamSet,
+    first: usize,
+    window: usize,
+    most: u32,
+) -> u64
     requires len { length rows.now ≡ max_rounds }
     requires longer { most < window }
     requires told { window ≤ most + 2 }
-    requires season { first + window ≤ max_rounds }
-    ensures value { (n : ℕ) → IsBelow n teams → result ≡ sum_where n (has teams)
-        (λ t. over (count_where window (λ k. has (slice_index rows.now (first + k)) t)) most) }
-    ensures most { result ≤ 2 * max_teams }
+    requires season { first + window < max_rounds }
+    ensures value { (n : ℕ) → IsBelow n teams →
+        result ≡ over_from rows.now teams window most n first + over_from rows.now teams window most n (first + 1) }
+    ensures most { result ≤ 4 * max_teams }
 {
-    let mut full = teams;
-    let mut nearly = teams;
-    for round in first..first + window {
-        let row = rows[usize::from(round)];
-        nearly = nearly.intersection(row).union(full);
-        full = full.intersection(row);
+    let both = InRows::all(rows, teams, first + 1, window - 1);
+    let earlier = both.and(rows[first]).over(window, most);
+    let later = both.and(rows[first + window]).over(window, most);
+    earlier + later
+}
+
+/// Of some teams those that are in each of some rows, and those that are in each but one at most.
+#[derive(Clone, Copy, Drop)]
+struct InRows {
+    each: TeamSet,
+    but_one: TeamSet,
+}
+
+impl InRows {
+    /// The teams that are in so many rows from the first on.
+    #[inline(always)]
+    fn all(rows: &[TeamSet; ROUNDS], teams: TeamSet, first: usize, count: usize) -> Self
+        requires len { length rows.now ≡ max_rounds }
+        requires season { first + count ≤ max_rounds }
+        ensures { IsInRows teams (rows_lack rows.now first count) result }
+    {
+        let mut in_rows = InRows {
+            each: teams,
+            but_one: teams,
+        };
+        for round in first..first + count {
+            in_rows = in_rows.and(rows[round]);
+        }
+        in_rows
     }
-    if u32::from(window) - most == 1 {
-        full.len().into()
-    } else {
-        u64::from(full.len()) + u64::from(nearly.len())
+
+    /// With one row more.
+    #[inline(always)]
+    fn and(&self, row: TeamSet) -> Self
+        ensures { (teams : ℕ) (lacks : ℕ → ℕ) → IsInRows teams lacks self.now →
+            IsInRows teams (λ t. lacks t + (if not (has row t) then 1 else 0)) result }
+    {
+        InRows {
+            each: self.each.intersection(row),
+            but_one: self.but_one.intersection(row).union(self.each),
+        }
+    }
+
+    /// Adds up for the teams the rows of the window that have them, over the most: told by how many rows lack them.
+    #[inline(always)]
+    fn over(&self, window: usize, most: u32) -> u64
+        requires longer { most < window }
+        requires told { window ≤ most + 2 }
+        ensures value { (n teams : ℕ) (in_row : ℕ → ℕ → Bool) → IsBelow n teams →
+            IsInRows teams (λ t. count_where window (λ k. not (in_row t k))) self.now →
+            result ≡ sum_where n (has teams) (λ t. over (count_where window (in_row t)) most) }
+        ensures most { result ≤ 2 * max_teams }
+    {
+        if window == most as usize + 1 {
+            self.each.len().into()
+        } else {
+            u64::from(self.each.len()) + u64::from(self.but_one.len())
+        }
     }
 }

@@ -11,7 +11,9 @@ use Rattle.league.proofs.ForCallers.{sum_below_none, sum_below_more, sum_below_s
 use Rattle.league.proofs.ForCallers.{has_beyond}
 use Rattle.robinx.specs.Deviations.{over}
 use Rattle.robinx.specs.within.Walked.{lacks}
-use Rattle.robinx.proofs.walks.Sets.{ones}
+use Rattle.robinx.specs.within.TeamWindows.{rows_lack, IsInRows}
+use Rattle.robinx.specs.declared.team_windows.InRows.{InRows}
+use Rattle.robinx.proofs.walks.Sets.{ones, sum_below_append}
 
 -- no round yet
 
@@ -109,58 +111,46 @@ full_more set starts k full nearly next window kept new_full new_nearly new_next
     more : (s : ℕ) → lacks set s (k + 1) ≡ lacks set s k + (if not (has set (s + k)) then 1 else 0)
     more s = sum_below_more k (λ j. if not (has set (s + j)) then 1 else 0)
 
--- how many rows of a window up to a round lack a team
-abbrev pub rows_lack : List ℕ → ℕ → ℕ → ℕ → ℕ
-rows_lack rows first round t = count_where (round - first) (λ k. not (has (get_or rows (first + k) 0) t))
-
--- of some teams those that the rows of a window up to a round lack in none or at most one
-pub record HasFullRows (rows : List ℕ) (teams first round full nearly : ℕ) : Type 0 where
-  pub none : (t : ℕ) → has full t ≡ (has teams t && rows_lack rows first round t == 0)
-  pub one : (t : ℕ) → has nearly t ≡ (has teams t && nat_lt (rows_lack rows first round t) 2)
-  pub none_below : (m : ℕ) → IsBelow m teams → IsBelow m full
-  pub one_below : (m : ℕ) → IsBelow m teams → IsBelow m nearly
-
-pub full_rows_none : (rows : List ℕ) (teams first : ℕ) → HasFullRows rows teams first first teams teams
-full_rows_none rows teams first = record {
-  none = λ t. sym (all_start (has teams t) (rows_lack rows first first t) (lacks_none t));
-  one = λ t. sym (nearly_start (has teams t) (rows_lack rows first first t) (lacks_none t));
-  none_below = λ m below. below;
-  one_below = λ m below. below;
+-- no row yet
+pub in_no_row : (rows : List ℕ) (teams first : ℕ) → IsInRows teams (rows_lack rows first 0) (record { each = teams; but_one = teams })
+in_no_row rows teams first = record {
+  each = λ t. sym (all_start (has teams t) (rows_lack rows first 0 t) (lacks_none t));
+  but_one = λ t. sym (nearly_start (has teams t) (rows_lack rows first 0 t) (lacks_none t));
+  each_below = λ m below. below;
+  but_one_below = λ m below. below;
 }
   where
-    lacks_none : (t : ℕ) → rows_lack rows first first t ≡ 0
-    lacks_none t =
-        let empty : first - first ≡ 0 = omega arith in
-        ap (λ n. count_where n (λ k. not (has (get_or rows (first + k) 0) t))) empty ∙
-        sum_below_none (λ k. if not (has (get_or rows (first + k) 0) t) then 1 else 0)
+    lacks_none : (t : ℕ) → rows_lack rows first 0 t ≡ 0
+    lacks_none t = sum_below_none (λ k. if not (has (get_or rows (first + k) 0) t) then 1 else 0)
 
-pub full_rows_more : (rows : List ℕ) (teams first round full nearly row kept new_nearly new_full : ℕ) → first ≤ round →
-    HasFullRows rows teams first round full nearly → row ≡ get_or rows round 0 →
-    ((t : ℕ) → has kept t ≡ (has nearly t && has row t)) → ((t : ℕ) → has new_nearly t ≡ (has kept t || has full t)) →
-    ((t : ℕ) → has new_full t ≡ (has full t && has row t)) → ((m : ℕ) → IsBelow m full → IsBelow m new_full) →
-    ((m : ℕ) → IsBelow m nearly → IsBelow m kept) → ((m : ℕ) → IsBelow m kept → IsBelow m full → IsBelow m new_nearly) →
-    HasFullRows rows teams first (round + 1) new_full new_nearly
-full_rows_more rows teams first round full nearly row kept new_nearly new_full from so_far row_is keeps nears fulls full_below kept_below
-    near_below = record {
-      none = λ t.
-          fulls t ∙ ap (λ b. b && has row t) (so_far.none t) ∙
-          full_step (has teams t) (has row t) (rows_lack rows first round t) (rows_lack rows first (round + 1) t) (more t);
-      one = λ t.
-          nears t ∙ ap (λ b. b || has full t) (keeps t) ∙ ap (λ b. (b && has row t) || has full t) (so_far.one t) ∙
-          ap (λ b. ((has teams t && nat_lt (rows_lack rows first round t) 2) && has row t) || b) (so_far.none t) ∙
-          nearly_step (has teams t) (has row t) (rows_lack rows first round t) (rows_lack rows first (round + 1) t) (more t);
-      none_below = λ m below. full_below m (so_far.none_below m below);
-      one_below = λ m below. near_below m (kept_below m (so_far.one_below m below)) (so_far.none_below m below);
-    }
-  where
-    more : (t : ℕ) → rows_lack rows first (round + 1) t ≡ rows_lack rows first round t + (if not (has row t) then 1 else 0)
-    more t =
-        let longer : round + 1 - first ≡ round - first + 1 = omega arith in
-        let last : first + (round - first) ≡ round = omega arith in
-        ap (λ n. count_where n (λ k. not (has (get_or rows (first + k) 0) t))) longer ∙
-        sum_below_more (round - first) (λ k. if not (has (get_or rows (first + k) 0) t) then 1 else 0) ∙
-        ap {B = ℕ} (λ s. rows_lack rows first round t + (if not (has s t) then 1 else 0))
-        (ap (λ r. get_or rows r 0) last ∙ sym row_is)
+-- the same numbers of rows that lack a team
+pub in_rows_same : (teams : ℕ) (lacks same : ℕ → ℕ) (in_rows : InRows) → ((t : ℕ) → lacks t ≡ same t) → IsInRows teams lacks in_rows →
+    IsInRows teams same in_rows
+in_rows_same teams lacks same in_rows is so_far = record {
+  each = λ t. so_far.each t ∙ ap (λ n. has teams t && n == 0) (is t);
+  but_one = λ t. so_far.but_one t ∙ ap (λ n. has teams t && nat_lt n 2) (is t);
+  each_below = so_far.each_below;
+  but_one_below = so_far.but_one_below;
+}
+
+-- the last row, and the first one
+pub last_row : (rows : List ℕ) (first count t : ℕ) →
+    rows_lack rows first count t + (if not (has (get_or rows (first + count) 0) t) then 1 else 0) ≡ rows_lack rows first (count + 1) t
+last_row rows first count t = sym (sum_below_more count (λ k. if not (has (get_or rows (first + k) 0) t) then 1 else 0))
+
+pub first_row : (rows : List ℕ) (first count t : ℕ) →
+    rows_lack rows (first + 1) count t + (if not (has (get_or rows first 0) t) then 1 else 0) ≡ rows_lack rows first (1 + count) t
+first_row rows first count t =
+    let f : ℕ → ℕ = λ k. if not (has (get_or rows (first + k) 0) t) then 1 else 0 in
+    omega (
+      arith,
+      sum_below_append 1 count f,
+      sum_below_more 0 f,
+      sum_below_none f,
+      ap {B = ℕ} (λ r. if not (has (get_or rows r 0) t) then 1 else 0) (add-zero first),
+      sum_below_same count (λ k. if not (has (get_or rows (first + 1 + k) 0) t) then 1 else 0) (λ k. f (1 + k))
+          (λ k below. ap {B = ℕ} (λ r. if not (has (get_or rows r 0) t) then 1 else 0) (omega arith)),
+    )
 
 -- what a window has and what it lacks are all its rounds
 has_and_lacks : (window : ℕ) (test : ℕ → Bool) → count_where window test + count_where window (λ k. not (test k)) ≡ window

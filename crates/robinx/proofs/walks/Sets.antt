@@ -16,7 +16,7 @@ ones zero = refl
 ones (suc n) = omega (arith, ones n)
 
 -- the first m terms, and n more
-sum_below_append : (m n : ℕ) (f : ℕ → ℕ) → sum_below (m + n) f ≡ sum_below m f + sum_below n (λ k. f (m + k))
+pub sum_below_append : (m n : ℕ) (f : ℕ → ℕ) → sum_below (m + n) f ≡ sum_below m f + sum_below n (λ k. f (m + k))
 unfolding sum_below
 sum_below_append m zero f = rw (add-zero m) (omega arith)
 sum_below_append m (suc n) f = rw (add-suc m n) (omega (arith, sum_below_append m n f))
