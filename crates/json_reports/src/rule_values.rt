@@ -1,6 +1,6 @@
 //! The rules: what each asks for, and how it is broken.
 
-ghost use Rattle.std.specs.Prelude.{◌≡◌, ◌++◌, ◌<◌, slice_get, IfOk, OnOk};
+ghost use Rattle.std.specs.Prelude.{◌≡◌, ◌++◌, ◌<◌, IfOk};
 ghost use Rattle.league.specs.League.{teams};
 ghost use Rattle.league.specs.RuleLimits.{IsBodyFor};
 ghost use Rattle.serde_json.specs.View.{view};

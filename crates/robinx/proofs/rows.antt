@@ -4,6 +4,6 @@ pub mod RowsByRounds
 pub mod HomeTables
 pub mod GapTables
 pub mod FullWindows
+pub mod WaitingStart
 pub mod AllTeams
 pub mod MetPairs
-pub mod PairedStarts

@@ -44,80 +44,82 @@ pub(crate) fn rows_near(
         add_rounds(&mut rows, schedule, games, 0, season);
         return rows;
     }
+    // of the rounds before this one those near the rounds to come are made
+    let mut made = 0;
     for round in in_season {
-        let from = (round + 1).saturating_sub(window);
+        let from = (round + 1).saturating_sub(window).max(made);
         let past = (round + window).min(season);
-        add_rounds(&mut rows, schedule, games, from, past);
+        made = add_rounds(&mut rows, schedule, games, from, past);
     }
     rows
 }
 
-/// Makes the rows of the rounds from one up to another, and maybe of some before and after these.
+/// Makes the rows of the rounds from one up to another, and maybe of some before and after these. Gives the first round after those made.
 fn add_rounds(
     rows: &mut [TeamSet; ROUNDS],
     schedule: &Schedule,
     games: &CountedGames,
     from: u8,
     past: u8,
-)
+) -> u8
     requires round_robin { IsDoubleRoundRobin schedule.now }
     requires teams { IsBelow schedule.now.teams games.now.teams }
-    requires from { from ≤ past }
     requires past { past ≤ round_count schedule.now.teams }
     requires len { length rows.old ≡ max_rounds }
+    ensures past { past ≤ result }
     ensures len { length rows.new ≡ max_rounds }
     ensures kept { (r : ℕ) → IsRow schedule.now games.now.side games.now.opponents games.now.teams r (slice_index rows.old r) →
         IsRow schedule.now games.now.side games.now.opponents games.now.teams r (slice_index rows.new r) }
-    ensures added { (r : ℕ) → from ≤ r → r < past →
+    ensures added { (r : ℕ) → from ≤ r → r < result → r < round_count schedule.now.teams →
         IsRow schedule.now games.now.side games.now.opponents games.now.teams r (slice_index rows.new r) }
 {
+    match games.side {
+        Side::Home => add_on_side(rows, schedule, games, Side::Home, from, past),
+        Side::Away => add_on_side(rows, schedule, games, Side::Away, from, past),
+        Side::Any => add_on_side(rows, schedule, games, Side::Any, from, past),
+    }
+}
+
+/// The same on a side, which is no test in the loops where it is told: by the games of the teams if they are less than half as many as the
+/// opponents, and else by those of the opponents, which take fewer instructions each.
+#[inline(always)]
+fn add_on_side(
+    rows: &mut [TeamSet; ROUNDS],
+    schedule: &Schedule,
+    games: &CountedGames,
+    side: Side,
+    from: u8,
+    past: u8,
+) -> u8
+    requires round_robin { IsDoubleRoundRobin schedule.now }
+    requires teams { IsBelow schedule.now.teams games.now.teams }
+    requires past { past ≤ round_count schedule.now.teams }
+    requires len { length rows.old ≡ max_rounds }
+    ensures past { past ≤ result }
+    ensures len { length rows.new ≡ max_rounds }
+    ensures kept { (r : ℕ) → IsRow schedule.now side games.now.opponents games.now.teams r (slice_index rows.old r) →
+        IsRow schedule.now side games.now.opponents games.now.teams r (slice_index rows.new r) }
+    ensures added { (r : ℕ) → from ≤ r → r < result → r < round_count schedule.now.teams →
+        IsRow schedule.now side games.now.opponents games.now.teams r (slice_index rows.new r) }
+{
     let last = schedule.rounds() - AT_ONCE;
-    for block in 0..(past - from).div_ceil(AT_ONCE) {
+    let opponents = TeamSet::below(schedule.teams()).intersection(games.opponents);
+    let by_own = 2 * games.teams.len() < opponents.len();
+    let blocks = past.saturating_sub(from).div_ceil(AT_ONCE);
+    for block in 0..blocks {
         let round = (from + AT_ONCE * block).min(last);
-        let (first, second, third, fourth) = four_rows(schedule, games, round);
+        let (first, second, third, fourth) = if by_own {
+            own_rows(schedule, games.teams, side, opponents, round)
+        } else {
+            guest_rows(schedule, side, opponents, round)
+        };
         let place = usize::from(round);
         rows[place] = first;
         rows[place + 1] = second;
         rows[place + 2] = third;
         rows[place + 3] = fourth;
     }
-}
-
-/// Four rows. A side that is told here is no test in the loops.
-fn four_rows(schedule: &Schedule, games: &CountedGames, round: u8) -> Four
-    requires round_robin { IsDoubleRoundRobin schedule.now }
-    requires teams { IsBelow schedule.now.teams games.now.teams }
-    requires rounds { round + 4 ≤ round_count schedule.now.teams }
-    ensures first { IsRow schedule.now games.now.side games.now.opponents games.now.teams round result.0 }
-    ensures second { IsRow schedule.now games.now.side games.now.opponents games.now.teams (round + 1) result.1 }
-    ensures third { IsRow schedule.now games.now.side games.now.opponents games.now.teams (round + 2) result.2 }
-    ensures fourth { IsRow schedule.now games.now.side games.now.opponents games.now.teams (round + 3) result.3 }
-{
-    match games.side {
-        Side::Home => rows_on_side(schedule, games, Side::Home, round),
-        Side::Away => rows_on_side(schedule, games, Side::Away, round),
-        Side::Any => rows_on_side(schedule, games, Side::Any, round),
-    }
-}
-
-/// Four rows on a side, found by the games of the teams if they are less than half as many as the opponents, and else by those of the
-/// opponents, which take fewer instructions each.
-#[inline(always)]
-fn rows_on_side(schedule: &Schedule, games: &CountedGames, side: Side, round: u8) -> Four
-    requires round_robin { IsDoubleRoundRobin schedule.now }
-    requires teams { IsBelow schedule.now.teams games.now.teams }
-    requires rounds { round + 4 ≤ round_count schedule.now.teams }
-    ensures first { IsRow schedule.now side games.now.opponents games.now.teams round result.0 }
-    ensures second { IsRow schedule.now side games.now.opponents games.now.teams (round + 1) result.1 }
-    ensures third { IsRow schedule.now side games.now.opponents games.now.teams (round + 2) result.2 }
-    ensures fourth { IsRow schedule.now side games.now.opponents games.now.teams (round + 3) result.3 }
-{
-    let opponents = TeamSet::below(schedule.teams()).intersection(games.opponents);
-    if 2 * games.teams.len() < opponents.len() {
-        own_rows(schedule, games.teams, side, games.opponents, round)
-    } else {
-        guest_rows(schedule, side, opponents, round)
-    }
+    from + AT_ONCE * blocks
 }
 
 /// Four rows of the teams, found by their games.

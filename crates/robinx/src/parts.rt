@@ -8,7 +8,7 @@ ghost use Rattle.robinx.specs.Deviations.{deviation};
 ghost use Rattle.robinx.specs.Parts.{can_alter, changing_terms, deviation_part};
 
 use crate::around::Around;
-use crate::classes::br1::br1;
+use crate::classes::br1::br1_part;
 use crate::classes::ca2::ca2_part;
 use crate::classes::ca3::ca3_part;
 use crate::classes::ca4::{Capacity, ca4_part};
@@ -99,13 +99,7 @@ fn changing_terms(
             side,
             slots,
             most,
-        } => {
-            let flipped = teams.intersection(change.sides);
-            match known {
-                Some(whole) if flipped == *teams => whole,
-                _ => br1(schedule, flipped, *side, *slots, *most),
-            }
-        }
+        } => br1_part(schedule, *teams, *side, *slots, *most, change, known),
         RuleBody::Br2 { teams, .. } => {
             deviation_if(teams.intersects(change.sides), schedule, rule, known)
         }

@@ -31,22 +31,45 @@ pub(crate) fn over_in_rows(
 {
     let length = usize::from(window);
     let mut total = 0;
-    // a start that is counted with the one before it, or past all
-    let mut counted = MAX_ROUNDS;
-    for first in starts {
-        if first == counted {
-            continue;
-        }
-        let next = first + 1;
-        if next < MAX_ROUNDS && starts.has(next) {
-            total += over_in_two(rows, teams, first.into(), length, most);
-            counted = next;
-        } else {
-            let in_rows = InRows::all(rows, teams, first.into(), length);
-            total += in_rows.over(length, most);
+    // a start that may be counted with the one after it
+    let mut waiting: Option<u8> = None;
+    for start in starts {
+        match waiting {
+            Some(first) if start == first + 1 => {
+                total += over_in_two(rows, teams, first.into(), length, most);
+                waiting = None;
+            }
+            Some(first) => {
+                total += over_in_one(rows, teams, first.into(), length, most);
+                waiting = Some(start);
+            }
+            None => waiting = Some(start),
         }
     }
-    total
+    match waiting {
+        Some(first) => total + over_in_one(rows, teams, first.into(), length, most),
+        None => total,
+    }
+}
+
+/// The same of the window that begins with this round.
+#[inline(always)]
+fn over_in_one(
+    rows: &[TeamSet; ROUNDS],
+    teams: TeamSet,
+    first: usize,
+    window: usize,
+    most: u32,
+) -> u64
+    requires len { length rows.now ≡ max_rounds }
+    requires longer { most < window }
+    requires told { window ≤ most + 2 }
+    requires season { first + window ≤ max_rounds }
+    ensures value { (n : ℕ) → IsBelow n teams → result ≡ over_from rows.now teams window most n first }
+    ensures most { result ≤ 2 * max_teams }
+{
+    let others = window - 1;
+    InRows::all(rows, teams, first, others).over_with(rows[first + others], window, most)
 }
 
 /// The same of two windows, the second of which begins a round later. The rows of both are looked at once.
@@ -67,8 +90,8 @@ fn over_in_two(
     ensures most { result ≤ 4 * max_teams }
 {
     let both = InRows::all(rows, teams, first + 1, window - 1);
-    let earlier = both.and(rows[first]).over(window, most);
-    let later = both.and(rows[first + window]).over(window, most);
+    let earlier = both.over_with(rows[first], window, most);
+    let later = both.over_with(rows[first + window], window, most);
     earlier + later
 }
 
@@ -109,20 +132,21 @@ impl InRows {
         }
     }
 
-    /// Adds up for the teams the rows of the window that have them, over the most: told by how many rows lack them.
+    /// Adds up for the teams the rows of a window that have them, over the most, where these are all its rows but this one: told by how
+    /// many rows lack them. If the window is two longer than the most, a team in each of these is over it, and once more if the row has it.
     #[inline(always)]
-    fn over(&self, window: usize, most: u32) -> u64
+    fn over_with(&self, row: TeamSet, window: usize, most: u32) -> u64
         requires longer { most < window }
         requires told { window ≤ most + 2 }
-        ensures value { (n teams : ℕ) (in_row : ℕ → ℕ → Bool) → IsBelow n teams →
-            IsInRows teams (λ t. count_where window (λ k. not (in_row t k))) self.now →
+        ensures value { (n teams : ℕ) (lacks : ℕ → ℕ) (in_row : ℕ → ℕ → Bool) → IsBelow n teams → IsInRows teams lacks self.now →
+            ((t : ℕ) → lacks t + (if not (has row t) then 1 else 0) ≡ count_where window (λ k. not (in_row t k))) →
             result ≡ sum_where n (has teams) (λ t. over (count_where window (in_row t)) most) }
         ensures most { result ≤ 2 * max_teams }
     {
         if window == most as usize + 1 {
-            self.each.len().into()
+            self.each.intersection(row).len().into()
         } else {
-            u64::from(self.each.len()) + u64::from(self.but_one.len())
+            u64::from(self.each.len()) + u64::from(self.but_one.intersection(row).len())
         }
     }
 }

@@ -175,6 +175,19 @@ two_short count m most whole = elim (cases_lt m 2) [
       omega (arith, cond-false {A = ℕ} (m == 0) 1 0 (ne_eqb m 0 some), cond-false {A = ℕ} (nat_lt m 2) 1 0 (le-ltb m 2 many))
 ]
 
+-- the same where one more row may lack it
+
+one_with : (bit : Bool) (count m most : ℕ) → count + (m + (if not bit then 1 else 0)) ≡ most + 1 →
+    (if m == 0 && bit then 1 else 0) ≡ over count most
+one_with true count m most whole = rw (and-true (m == 0)) (one_short count m most (omega (arith, whole)))
+one_with false count m most whole = rw (and-false (m == 0)) (omega (arith, whole))
+
+two_with : (bit : Bool) (count m most : ℕ) → count + (m + (if not bit then 1 else 0)) ≡ most + 2 →
+    (if m == 0 then 1 else 0) + (if nat_lt m 2 && bit then 1 else 0) ≡ over count most
+two_with true count m most whole = rw (and-true (nat_lt m 2)) (two_short count m most (omega (arith, whole)))
+two_with false count m most whole =
+    rw (and-false (nat_lt m 2)) (omega (arith, one_short count m most (omega (arith, whole))))
+
 -- over all of some windows, or over some teams in one window: whether `s` has the round `k` of its window is `in_row s k`
 module _ (in_row : ℕ → ℕ → Bool) (all n window most : ℕ) where
   pub over_in_shorter : window ≤ most → sum_where n (has all) (λ s. over (count_where window (in_row s)) most) ≡ 0
@@ -212,3 +225,32 @@ module _ (in_row : ℕ → ℕ → Bool) (all n window most : ℕ) where
           (if b then over (count_where window (in_row s)) most else 0)
       at true s = two_short _ (count_where window (λ k. not (in_row s k))) most (has_and_lacks window (in_row s) ∙ longer)
       at false s = refl
+
+-- over some teams in one window, where another row is told apart from those that lack a team so many times
+module _ (in_row : ℕ → ℕ → Bool) (lacks : ℕ → ℕ) (all row n window most : ℕ)
+    (is : (t : ℕ) → lacks t + (if not (has row t) then 1 else 0) ≡ count_where window (λ k. not (in_row t k))) where
+  pub over_with_full : (full : ℕ) → window ≡ most + 1 → ((t : ℕ) → has full t ≡ ((has all t && lacks t == 0) && has row t)) →
+      count_where n (has full) ≡ sum_where n (has all) (λ t. over (count_where window (in_row t)) most)
+  over_with_full full longer members =
+      sum_below_same n _ _
+      (λ t below. ap {B = ℕ} (λ b. if b then 1 else 0) (members t) ∙ at (has all t) t)
+    where
+      at : (b : Bool) (t : ℕ) → (if (b && lacks t == 0) && has row t then 1 else 0) ≡
+          (if b then over (count_where window (in_row t)) most else 0)
+      at true t = one_with (has row t) _ (lacks t) most (ap (λ m. count_where window (in_row t) + m) (is t) ∙ has_and_lacks window (in_row t) ∙ longer)
+      at false t = refl
+
+  pub over_with_both : (full nearly : ℕ) → window ≡ most + 2 → ((t : ℕ) → has full t ≡ (has all t && lacks t == 0)) →
+      ((t : ℕ) → has nearly t ≡ ((has all t && nat_lt (lacks t) 2) && has row t)) →
+      count_where n (has full) + count_where n (has nearly) ≡
+      sum_where n (has all) (λ t. over (count_where window (in_row t)) most)
+  over_with_both full nearly longer fulls nears =
+      sym (sum_below_add n (λ t. if has full t then 1 else 0) (λ t. if has nearly t then 1 else 0)) ∙
+      sum_below_same n _ _
+      (λ t below. rw (fulls t, nears t) (at (has all t) t))
+    where
+      at : (b : Bool) (t : ℕ) →
+          (if b && lacks t == 0 then 1 else 0) + (if (b && nat_lt (lacks t) 2) && has row t then 1 else 0) ≡
+          (if b then over (count_where window (in_row t)) most else 0)
+      at true t = two_with (has row t) _ (lacks t) most (ap (λ m. count_where window (in_row t) + m) (is t) ∙ has_and_lacks window (in_row t) ∙ longer)
+      at false t = refl

@@ -5,7 +5,7 @@ use Rattle.std.proofs.Math.ListN.{set}
 use Rattle.std.proofs.lemmas.Grind.{get_or-set_at}
 use Rattle.std.proofs.lemmas.List.{length-set}
 use Rattle.std.proofs.Math.Bool.{or-false, and-false}
-use Rattle.std.proofs.lemmas.Bool.{cases_eq, cases_lt, eq-eqb, ne_eqb, lt-ltb, false≢true}
+use Rattle.std.proofs.lemmas.Bool.{cases_eq, cases_lt, eq-eqb, ne_eqb, lt-ltb, false≢true, and_parts}
 use Rattle.league.specs.Limits.{max_rounds}
 use Rattle.league.specs.Sets.{has, IsBelow}
 use Rattle.league.specs.within.Sets.{IsWithoutLowest}
@@ -195,34 +195,50 @@ made_more IsAt season from block place first second third fourth old rows least 
         IsAt r (get_or (set (set (set (set rows place first) (place + 1) second) (place + 2) third) (place + 3) fourth) r 0)
     new = four_at IsAt rows place first second third fourth room of_first of_second of_third of_fourth
 
--- a loop over rounds has made the rows of the rounds less than a window away from those that aren't left
-pub record HasMadeNear (IsAt : ℕ → ℕ → Type 0) (season all left window : ℕ) (rows : List ℕ) : Type 0 where
+-- a loop over rounds has made the rows of the rounds less than a window away from those that aren't left, and of those before some round that
+-- are so near to those left
+pub record HasMadeNear (IsAt : ℕ → ℕ → Type 0) (season all left window past : ℕ) (rows : List ℕ) : Type 0 where
   pub below : IsBelow season left
   pub len : length rows ≡ max_rounds
   pub made : (r c : ℕ) → r < season → has all c ≡ true → has left c ≡ false → r < c + window → c < r + window → IsAt r (get_or rows r 0)
+  pub before : (r c : ℕ) → r < season → r < past → has left c ≡ true → c < r + window → IsAt r (get_or rows r 0)
 
 pub near_none : (IsAt : ℕ → ℕ → Type 0) (season all left window : ℕ) (rows : List ℕ) → IsBelow season left → left ≡ all →
-    length rows ≡ max_rounds → HasMadeNear IsAt season all left window rows
+    length rows ≡ max_rounds → HasMadeNear IsAt season all left window 0 rows
 near_none IsAt season all left window rows below same len = record {
   below = below;
   len = len;
   made = λ r c in_r here gone near_c near_r. absurd (false≢true (sym gone ∙ ap (λ s. has s c) same ∙ here));
+  before = λ r c in_r none here near_r. absurd (omega (arith, none));
 }
 
-pub near_more : (IsAt : ℕ → ℕ → Type 0) (season all left lowest rest window from past : ℕ) (rows new : List ℕ) →
-    HasMadeNear IsAt season all left window rows → IsWithoutLowest left lowest rest → length new ≡ max_rounds →
+pub near_more : (IsAt : ℕ → ℕ → Type 0) (season all left lowest rest window from past next : ℕ) (rows new : List ℕ) →
+    HasMadeNear IsAt season all left window past rows → IsWithoutLowest left lowest rest → length new ≡ max_rounds →
     ((r : ℕ) → IsAt r (get_or rows r 0) → IsAt r (get_or new r 0)) →
-    ((r : ℕ) → from ≤ r → r < past → IsAt r (get_or new r 0)) →
-    ((r : ℕ) → lowest < r + window → from ≤ r) → ((r : ℕ) → r < season → r < lowest + window → r < past) →
-    HasMadeNear IsAt season all rest window new
-near_more IsAt season all left lowest rest window from past rows new so_far taken len keeps made from_is past_is = record {
+    ((r : ℕ) → from ≤ r → r < next → r < season → IsAt r (get_or new r 0)) →
+    ((r : ℕ) → lowest < r + window → past ≤ r → from ≤ r) → ((r : ℕ) → r < season → r < lowest + window → r < next) →
+    HasMadeNear IsAt season all rest window next new
+near_more IsAt season all left lowest rest window from past next rows new so_far taken len keeps made from_is next_is = record {
   below = omega (arith, so_far.below, taken.fewer);
   len = len;
   made = λ r c in_r here gone near_c near_r. elim (cases_eq c lowest) [
-    | inl same ↦ made r (from_is r (omega arith)) (past_is r in_r (omega arith))
+    | inl same ↦ upto r in_r (next_is r in_r (omega arith)) (omega arith)
     | inr other ↦ keeps r (so_far.made r c in_r here (sym (others_kept left lowest rest c taken other) ∙ gone) near_c near_r)
   ];
+  before = λ r c in_r in_next here near_r. upto r in_r in_next (omega (arith, least c here, near_r));
 }
+  where
+    upto : (r : ℕ) → r < season → r < next → lowest < r + window → IsAt r (get_or new r 0)
+    upto r in_r in_next near = elim (cases_lt r past) [
+      | inl earlier ↦ keeps r (so_far.before r lowest in_r earlier taken.in_set near)
+      | inr later ↦ made r (from_is r near later) in_next in_r
+    ]
+
+    least : (c : ℕ) → has rest c ≡ true → lowest ≤ c
+    least c here = elim (cases_lt c lowest) [
+      | inl below ↦ absurd (false≢true (sym (taken.is_lowest c below) ∙ (and_parts (has left c) (not (c == lowest)) (sym (taken.others c) ∙ here)).0))
+      | inr above ↦ above
+    ]
 
 -- one that passes
 pub any_one : (n : ℕ) (test : ℕ → Bool) → any_below n test ≡ true → (k : ℕ) × (k < n) × (test k ≡ true)

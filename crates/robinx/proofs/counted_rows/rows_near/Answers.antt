@@ -30,18 +30,10 @@ overflow_add-round-in-loop-round c = omega (
 
 pub loop-round-preserved : goal.loop-round-preserved
 loop-round-preserved c =
-    near_more _ _ _ _ _ _ _ _ _ _ _ c.loop-round.invariant c.in-Some.ensures.steps c.add_rounds-in-loop-round.ensures.len
-    c.add_rounds-in-loop-round.ensures.kept c.add_rounds-in-loop-round.ensures.added (λ r near. omega (arith, c.saturating_sub-from.ensures))
-    (λ r in_r near. omega (arith, c.min-past.ensures, c.rounds-season.ensures.number))
-
-pub add_rounds-requires-in-loop-round-clause-from : goal.add_rounds-requires-in-loop-round-clause-from
-add_rounds-requires-in-loop-round-clause-from c = omega (
-  arith,
-  c.saturating_sub-from.ensures,
-  c.min-past.ensures,
-  c.rounds-season.ensures.number,
-  lowest_below _ _ _ _ c.loop-round.invariant.below c.in-Some.ensures.steps,
-)
+    near_more _ _ _ _ _ _ _ _ _ _ _ _ c.loop-round.invariant c.in-Some.ensures.steps c.add_rounds-made.ensures.len
+    c.add_rounds-made.ensures.kept c.add_rounds-made.ensures.added
+    (λ r near later. omega (arith, c.saturating_sub.ensures, c.max-from.ensures))
+    (λ r in_r near. omega (arith, c.min-past.ensures, c.rounds-season.ensures.number, c.add_rounds-made.ensures.past))
 
 pub returns-clause-members : goal.returns-clause-members
 returns-clause-members c = λ r at in_r in_at changed near_at near_r.

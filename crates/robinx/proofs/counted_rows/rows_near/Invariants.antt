@@ -6,4 +6,4 @@ use Rattle.robinx.proofs.counted_rows.rows_near.Given as goal
 abbrev pub invariant-loop-round : goal.invariant-loop-round
 invariant-loop-round l =
     HasMadeNear (IsRow l.schedule l.games.side l.games.opponents l.games.teams) (round_count l.schedule.teams) l.initial.round-iterator
-    l.round-iterator l.window l.rows
+    l.round-iterator l.window l.made l.rows

@@ -1,8 +1,7 @@
 use Rattle.std.proofs.Common.{◌≡◌, ℕ, Bool, if◌then◌else◌, IfSome, inl, inr, sym, ◌∙◌, ap, subst}
-use Rattle.std.proofs.lemmas.Bool.{eqb-true}
 use Rattle.league.specs.Sets.{has, all_numbers}
 use Rattle.league.specs.declared.rule.RuleBody.{RuleBody}
-use Rattle.league.specs.declared.rule.RuleBody.TheVariants.{Br1, Ca2}
+use Rattle.league.specs.declared.rule.RuleBody.TheVariants.{Ca2}
 use Rattle.league.proofs.ForCallers.{has_all_numbers}
 use Rattle.robinx.specs.declared.counted_games.CountedGames.{CountedGames}
 use Rattle.robinx.specs.Deviations.{deviation}
@@ -10,7 +9,7 @@ use Rattle.robinx.specs.Parts.{changing_terms}
 use Rattle.robinx.specs.Touches.{has_touched_team}
 use Rattle.robinx.specs.within.Walked.{counted_of}
 use Rattle.robinx.proofs.rows.AllTeams.{Ca2-all}
-use Rattle.robinx.proofs.balances.PartTerms.{Ca1-otherwise, Br1-terms}
+use Rattle.robinx.proofs.balances.PartTerms.{Ca1-otherwise}
 use Rattle.robinx.proofs.parts.changing_terms.Goals as goal
 
 pub ca2_part-requires-clause-known : goal.ca2_part-requires-clause-known
@@ -44,26 +43,6 @@ returns-in-Ca1 c =
           ap terms (sym is.2)
       | inr is ↦ ap as_ca2 (games.ensures.value ∙ ap (counted_of g.teams) is.3) ∙ ap terms (sym is.3)
     ]
-
-pub returns-in-Some : goal.returns-in-Some
-returns-in-Some c =
-    let g = c.args.schedule.now in
-    let flipped = c.intersection-flipped in
-    let all : flipped.result ≡ c.in-Br1.teams = eqb-true _ _ (sym c.eq.ensures ∙ c.if-eq.true) in
-    rw c.in-Some.is at c.requires.known ∙ ap (deviation g) c.in-Br1.is ∙
-    ap (λ teams. deviation g (Br1 teams c.in-Br1.side c.in-Br1.slots c.in-Br1.most)) (sym all) ∙
-    Br1-terms g c.args.change.now.main c.args.change.now.rounds c.args.change.now.sides c.in-Br1.teams c.in-Br1.side
-    c.in-Br1.slots c.in-Br1.most flipped.result flipped.ensures.members ∙
-    ap (changing_terms g c.args.change.now.main c.args.change.now.rounds c.args.change.now.sides) (sym c.in-Br1.is)
-
-pub returns-in_default : goal.returns-in_default
-returns-in_default c =
-    let g = c.args.schedule.now in
-    let flipped = c.intersection-flipped in
-    c.br1.ensures ∙
-    Br1-terms g c.args.change.now.main c.args.change.now.rounds c.args.change.now.sides c.in-Br1.teams c.in-Br1.side
-    c.in-Br1.slots c.in-Br1.most flipped.result flipped.ensures.members ∙
-    ap (changing_terms g c.args.change.now.main c.args.change.now.rounds c.args.change.now.sides) (sym c.in-Br1.is)
 
 pub returns-in-Br2 : goal.returns-in-Br2
 unfolding changing_terms has_touched_team

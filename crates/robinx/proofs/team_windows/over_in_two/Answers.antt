@@ -2,7 +2,7 @@ use Rattle.std.proofs.Common.{◌≡◌, ◌+◌, ◌-◌, ℕ, not, if◌then�
 use Rattle.std.proofs.lemmas.Grind.{get_or_default_zero}
 use Rattle.league.specs.Sets.{has}
 use Rattle.robinx.specs.within.TeamWindows.{rows_lack}
-use Rattle.robinx.proofs.rows.FullWindows.{first_row, in_rows_same, last_row}
+use Rattle.robinx.proofs.rows.FullWindows.{first_row, last_row}
 use Rattle.robinx.proofs.team_windows.over_in_two.Goals as goal
 
 pub returns-clause-value : goal.returns-clause-value
@@ -16,12 +16,10 @@ returns-clause-value c = λ n below.
     let row = get_or_default_zero rows first c.index-rows-first.result (omega (arith, c.requires.season, c.requires.len)) in
     let row_after = get_or_default_zero rows (first + c.args.window) c.index-rows-first-2.result
     (omega (arith, c.requires.season, c.requires.len)) ∙ ap (λ r. get_or rows r 0) last in
-    let with : ℕ → ℕ → ℕ = λ t s. rows_lack rows (first + 1) others t + (if not (has s t) then 1 else 0) in
+    let lacks = rows_lack rows (first + 1) others in
+    let with : ℕ → ℕ → ℕ = λ t s. lacks t + (if not (has s t) then 1 else 0) in
     ap₂ (λ a b. a + b)
-    (c.over-earlier.ensures.value n c.args.teams (λ t k. has (get_or rows (first + k) 0) t) below
-    (in_rows_same _ _ _ _ (λ t. ap (with t) row ∙ first_row rows first others t ∙ ap (λ count. rows_lack rows first count t) longer)
-    (c.and.ensures _ _ c.all-both.ensures)))
-    (c.over-later.ensures.value n c.args.teams (λ t k. has (get_or rows (first + 1 + k) 0) t) below
-    (in_rows_same _ _ _ _
-    (λ t. ap (with t) row_after ∙ last_row rows (first + 1) others t ∙ ap (λ count. rows_lack rows (first + 1) count t) longer_too)
-    (c.and-2.ensures _ _ c.all-both.ensures)))
+    (c.over_with-earlier.ensures.value n c.args.teams lacks (λ t k. has (get_or rows (first + k) 0) t) below c.all-both.ensures
+    (λ t. ap (with t) row ∙ first_row rows first others t ∙ ap (λ count. rows_lack rows first count t) longer))
+    (c.over_with-later.ensures.value n c.args.teams lacks (λ t k. has (get_or rows (first + 1 + k) 0) t) below c.all-both.ensures
+    (λ t. ap (with t) row_after ∙ last_row rows (first + 1) others t ∙ ap (λ count. rows_lack rows (first + 1) count t) longer_too))
