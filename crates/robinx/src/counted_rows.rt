@@ -20,38 +20,38 @@ const AT_ONCE: u8 = 4;
 /// The rows of a round and of the next three.
 type Four = (TeamSet, TeamSet, TeamSet, TeamSet);
 
-/// For each round less than a window away from one of these rounds those of the teams whose games count in it. Rows of other rounds may
-/// lack some.
-pub(crate) fn rows_near(
+/// Makes the row of each round less than a window away from one of these rounds, which has those of the teams whose games count in it. Rows
+/// of other rounds may lack some.
+pub(crate) fn make_rows_near(
+    rows: &mut [TeamSet; ROUNDS],
     schedule: &Schedule,
     games: &CountedGames,
     rounds: SlotSet,
     window: u8,
-) -> [TeamSet; ROUNDS]
+)
     requires round_robin { IsDoubleRoundRobin schedule.now }
     requires teams { IsBelow schedule.now.teams games.now.teams }
     requires least { 1 ≤ window }
     requires window { window ≤ round_count schedule.now.teams }
-    ensures len { length result ≡ max_rounds }
+    requires len { length rows.old ≡ max_rounds }
+    ensures len { length rows.new ≡ max_rounds }
     ensures members { (r c : ℕ) → r < round_count schedule.now.teams → c < round_count schedule.now.teams → has rounds c ≡ true →
         r < c + window → c < r + window →
-        IsRow schedule.now games.now.side games.now.opponents games.now.teams r (slice_index result r) }
+        IsRow schedule.now games.now.side games.now.opponents games.now.teams r (slice_index rows.new r) }
 {
     let season = schedule.rounds();
     let in_season = SlotSet::below(season).intersection(rounds);
-    let mut rows = [TeamSet::empty(); ROUNDS];
     if in_season.len() * (2 * u32::from(window) - 1) >= season.into() {
-        add_rounds(&mut rows, schedule, games, 0, season);
-        return rows;
+        add_rounds(rows, schedule, games, 0, season);
+        return;
     }
     // of the rounds before this one those near the rounds to come are made
     let mut made = 0;
     for round in in_season {
         let from = (round + 1).saturating_sub(window).max(made);
         let past = (round + window).min(season);
-        made = add_rounds(&mut rows, schedule, games, from, past);
+        made = add_rounds(rows, schedule, games, from, past);
     }
-    rows
 }
 
 /// Makes the rows of the rounds from one up to another, and maybe of some before and after these. Gives the first round after those made.

@@ -12,7 +12,7 @@ ghost use Rattle.robinx.specs.within.Walked.{over_from_starts};
 
 use crate::around::Around;
 use crate::counted_games::{CountedGames, counted_rounds, games_otherwise};
-use crate::counted_rows::rows_near;
+use crate::counted_rows::{ROUNDS, make_rows_near};
 use crate::team_windows::over_in_rows;
 use crate::windows::over_in_windows_of;
 use fixtures::Schedule;
@@ -62,7 +62,8 @@ pub(crate) fn ca3_part(
         }
     }
     if goes_by_rounds(schedule, &otherwise, change.rounds, starts, window, most) {
-        let rows = rows_near(schedule, &otherwise, change.rounds, length);
+        let mut rows = [TeamSet::empty(); ROUNDS];
+        make_rows_near(&mut rows, schedule, &otherwise, change.rounds, length);
         over_in_rows(&rows, otherwise.teams, starts, length, most)
     } else {
         over_by_teams(schedule, &otherwise, starts, length, most)

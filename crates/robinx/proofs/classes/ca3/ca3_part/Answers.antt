@@ -42,14 +42,14 @@ returns-then-goes_by_rounds c =
     (subst (λ (n : ℕ). IsBelow (n + 1 - c.args.window) c.intersection-starts.result) c.rounds.ensures.number
     (c.intersection-starts.ensures.below _ c.below-windows.ensures.below)) ∙
     sum_where_swap _ c.args.schedule.now.teams (has c.intersection-starts.result) (has others.result.teams)
-    (λ first t. over (count_where c.args.window (λ k. has (get_or c.rows_near-rows.result (first + k) 0) t)) c.args.most) ∙
+    (λ first t. over (count_where c.args.window (λ k. has (get_or c.make_rows_near.new.rows (first + k) 0) t)) c.args.most) ∙
     sum_where_same _ _ _ _ _ (λ t below. refl)
     (λ t below is.
     windows_of_rows c.args.schedule.now others.result.side (has others.result.opponents) (has c.args.change.now.rounds)
-    c.rows_near-rows.result c.args.window c.args.most t c.intersection-starts.result
+    c.make_rows_near.new.rows c.args.window c.args.most t c.intersection-starts.result
     (λ s here. sym (c.starts_meeting.ensures.members s) ∙
     (and_parts (has c.below-windows.result s) (has c.starts_meeting.result s) (sym (c.intersection-starts.ensures.members s) ∙ here)).1)
-    (λ r at in_r in_at changed near_at near_r. c.rows_near-rows.ensures.members r at in_r in_at changed near_at near_r t is) ∙
+    (λ r at in_r in_at changed near_at near_r. c.make_rows_near.ensures.members r at in_r in_at changed near_at near_r t is) ∙
     met_starts c.args.schedule.now others.result.side (has others.result.opponents) (has c.args.change.now.rounds) c.args.window c.args.most t
     c.below-windows.result c.starts_meeting.result c.intersection-starts.result _ (ap (λ n. n + 1 - c.args.window) c.rounds.ensures.number)
     c.below-windows.ensures.members c.starts_meeting.ensures.members c.intersection-starts.ensures.members) ∙

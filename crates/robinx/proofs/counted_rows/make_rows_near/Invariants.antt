@@ -1,7 +1,7 @@
 use Rattle.fixtures.specs.Games.{round_count}
 use Rattle.robinx.specs.within.Walked.{IsRow}
 use Rattle.robinx.proofs.rows.RowsByRounds.{HasMadeNear}
-use Rattle.robinx.proofs.counted_rows.rows_near.Given as goal
+use Rattle.robinx.proofs.counted_rows.make_rows_near.Given as goal
 
 abbrev pub invariant-loop-round : goal.invariant-loop-round
 invariant-loop-round l =

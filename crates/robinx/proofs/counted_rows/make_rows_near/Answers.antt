@@ -3,14 +3,14 @@ use Rattle.std.proofs.lemmas.Bool.{and_from, lt-ltb}
 use Rattle.league.specs.Sets.{has, IsBelow}
 use Rattle.league.proofs.ForCallers.{has_empty, lowest_below}
 use Rattle.robinx.proofs.rows.RowsByRounds.{near_none, near_more}
-use Rattle.robinx.proofs.counted_rows.rows_near.Goals as goal
+use Rattle.robinx.proofs.counted_rows.make_rows_near.Goals as goal
 
 pub loop-round-init : goal.loop-round-init
 loop-round-init c =
     near_none _ _ _ _ _ _
     (subst (λ (n : ℕ). IsBelow n c.into_iter-round-iterator.result) c.rounds-season.ensures.number
     (omega (arith, c.into_iter-round-iterator.ensures.into_iter_gives, c.intersection-in_season.ensures.below _ c.below.ensures.below)))
-    refl refl
+    refl c.requires.len
 
 pub overflow_add-round : goal.overflow_add-round
 overflow_add-round c = omega (
