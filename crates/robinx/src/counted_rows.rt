@@ -54,7 +54,7 @@ pub(crate) fn make_rows_near(
     }
 }
 
-/// Makes the rows of the rounds from one up to another, and maybe of some before and after these. Gives the first round after those made.
+/// Makes the rows of the rounds from one up to another, and maybe of some before and after these. Gives a round up to which all are made.
 fn add_rounds(
     rows: &mut [TeamSet; ROUNDS],
     schedule: &Schedule,

@@ -8,7 +8,6 @@ ghost use Rattle.robinx.specs.Deviations.{over};
 ghost use Rattle.robinx.specs.within.TeamWindows.{over_from, rows_lack, IsInRows};
 
 use crate::counted_rows::ROUNDS;
-use league::limits::MAX_ROUNDS;
 use league::{SlotSet, TeamSet};
 
 /// The rounds of each window that begins with one of the starts whose rows have a team, over the most, for each of the teams.
