@@ -11,7 +11,7 @@ use Rattle.policy.specs.declared.legs.Leg.{Leg}
 use Rattle.policy.specs.declared.legs.LegEnd.{LegEnd}
 use Rattle.policy.specs.declared.legs.WeightCourse.{WeightCourse}
 use Rattle.policy.specs.Legs.{kinds_of}
-use Rattle.annealing.specs.declared.blocks.Tally.{Tally}
+use Rattle.annealing.specs.declared.blocks.StepTally.{StepTally}
 use Rattle.annealing.specs.declared.boards.Boards.{Boards}
 use Rattle.annealing.specs.declared.chain.Annealed.{Annealed}
 use Rattle.annealing.specs.declared.chain.Chain.{Chain}
@@ -42,7 +42,7 @@ IsGoing-none leg board going boards_are steps_are accepted_are = record {
 block_begins : (leg : Leg) (number : ℕ) → number < block_count leg → 1000 * number < leg.steps
 block_begins leg number under = omega arith
 
-pub IsGoing-more : (leg : Leg) (old : Book) (number : ℕ) (going next : Going) (roomy : Boards) (tally : Tally) → number < block_count leg →
+pub IsGoing-more : (leg : Leg) (old : Book) (number : ℕ) (going next : Going) (roomy : Boards) (tally : StepTally) → number < block_count leg →
     going.steps ≡ 1000 * number → IsGoing leg old number going → roomy ≡ with_room going.boards →
     next.boards.parked ≡ roomy.parked → IsFrom (kinds_of leg.moves) tally.accepted roomy.board next.boards.board →
     least_in next.boards.board ≤ least_in roomy.board → next.steps ≡ going.steps + tally.steps → next.accepted ≡ going.accepted + tally.accepted →

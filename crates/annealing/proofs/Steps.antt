@@ -15,7 +15,7 @@ use Rattle.fixture_board.specs.Record.{Book, book}
 use Rattle.fixture_board.specs.Trials.{passes, trial_cost, trial_entry, trial_history, TellsOfTrial}
 use Rattle.fixture_board.proofs.ForCallers.{tells_of_trial, least_of_falls}
 use Rattle.annealing.specs.declared.blocks.Block.{Block}
-use Rattle.annealing.specs.declared.blocks.Tally.{Tally}
+use Rattle.annealing.specs.declared.blocks.StepTally.{StepTally}
 use Rattle.annealing.specs.declared.thresholds.TheConstants.{QUANTILES}
 use Rattle.annealing.specs.within.Blocks.{Walked, counts_as_feasible, start_at, trial_drawn, trial_from, walked, with_trial, IsTallied}
 use Rattle.annealing.specs.within.Boards.{least_in}
@@ -105,7 +105,7 @@ left_on board next trial is next_is =
 
 -- the tally of one step more
 
-tallied-more : {tally next_tally : Tally} {stream : Stream} {board next : Book} {w : Walked} (league : LeagueData) (room : ℕ) (block : Block) (cost : Cost)
+tallied-more : {tally next_tally : StepTally} {stream : Stream} {board next : Book} {w : Walked} (league : LeagueData) (room : ℕ) (block : Block) (cost : Cost)
     (drawn : Trial × Stream) (made : Bool) → IsTallied tally stream board w → board.league ≡ league → board.room ≡ room →
     cost ≡ cost_at board.league board.history →
     next_tally.feasible ≡ tally.feasible + from_bool (counts_as_feasible block.apart cost) → next_tally.accepted ≡ tally.accepted + from_bool made →
@@ -131,7 +131,7 @@ tallied-more {tally} {next_tally} {stream} {board} {next} {w} league room block 
 
 -- what holds after so many steps of a block that was begun with this board and stream
 
-pub record AreSteps (block : Block) (n : ℕ) (old : Book) (start : Stream) (cost : Cost) (tally : Tally) (stream : Stream) (board : Book) : Type 0 where
+pub record AreSteps (block : Block) (n : ℕ) (old : Book) (start : Stream) (cost : Cost) (tally : StepTally) (stream : Stream) (board : Book) : Type 0 where
   pub from : IsFrom block.draws.kinds.now tally.accepted old board
   pub never_worse : least_in board ≤ least_in old
   pub cost_is : cost ≡ cost_at board.league board.history
@@ -140,11 +140,11 @@ pub record AreSteps (block : Block) (n : ℕ) (old : Book) (start : Stream) (cos
   pub accepted : tally.accepted ≤ n
   pub walked : IsTallied tally stream board (walked old.league old.room block n (start_at old.history start))
 
-pub AreSteps-none : (block : Block) (old : Book) (start : Stream) (cost : Cost) (tally : Tally) → cost ≡ cost_at old.league old.history →
+pub AreSteps-none : (block : Block) (old : Book) (start : Stream) (cost : Cost) (tally : StepTally) → cost ≡ cost_at old.league old.history →
     tally ≡ record { steps = block.steps; feasible = 0; accepted = 0 } → AreSteps block 0 old start cost tally start old
 unfolding walked
 AreSteps-none block old start cost tally cost_is tally_is =
-    let none : Tally = record { steps = block.steps; feasible = 0; accepted = 0 } in
+    let none : StepTally = record { steps = block.steps; feasible = 0; accepted = 0 } in
     let are : AreSteps block 0 old start cost none start old = record {
       from = IsFrom-same block.draws.kinds.now old;
       never_worse = omega arith;
@@ -161,8 +161,8 @@ flag_small true = omega arith
 flag_small false = omega arith
 
 -- where the move was made
-pub AreSteps-made : {block : Block} {n : ℕ} {old : Book} {start : Stream} {cost : Cost} {tally : Tally} {stream : Stream} {board : Book} (next : Book)
-    (trial : Trial) (left : Stream) (after next_cost : Cost) (flag : ℕ) (next_tally : Tally) → AreSteps block n old start cost tally stream board →
+pub AreSteps-made : {block : Block} {n : ℕ} {old : Book} {start : Stream} {cost : Cost} {tally : StepTally} {stream : Stream} {board : Book} (next : Book)
+    (trial : Trial) (left : Stream) (after next_cost : Cost) (flag : ℕ) (next_tally : StepTally) → AreSteps block n old start cost tally stream board →
     IsLeague old.league → Contains block.draws.kinds.now (kind_of trial.mv) → (trial, left) ≡ trial_drawn block stream →
     flag ≡ from_bool (counts_as_feasible block.apart cost) → Some after ≡ trial_cost board.league board.room board.history trial →
     next ≡ book board.league board.room (trial_history board.league board.room board.history 0 trial) → next_cost ≡ after →
@@ -172,14 +172,14 @@ AreSteps-made {block} {n} {old} {start} {cost} {tally} {stream} {board} next tri
     let w : Walked = walked old.league old.room block n (start_at old.history start) in
     let made : IsMadeOn block.draws.kinds.now tally.accepted old board next after =
     made_on board next trial after was.from (subst IsLeague (sym was.from.league) limits) kind is next_is in
-    let feasible : next_tally.feasible ≡ tally.feasible + flag = ap (λ (t : Tally). t.feasible) tally_is in
-    let accepted : next_tally.accepted ≡ tally.accepted + 1 = ap (λ (t : Tally). t.accepted) tally_is in
+    let feasible : next_tally.feasible ≡ tally.feasible + flag = ap (λ (t : StepTally). t.feasible) tally_is in
+    let accepted : next_tally.accepted ≡ tally.accepted + 1 = ap (λ (t : StepTally). t.accepted) tally_is in
     let small : flag ≤ 1 = rw flag_is (flag_small (counts_as_feasible block.apart cost)) in
     record {
       from = rw accepted made.from;
       never_worse = omega (arith, made.never_worse, was.never_worse);
       cost_is = cost_is ∙ made.cost;
-      steps = ap (λ (t : Tally). t.steps) tally_is ∙ was.steps;
+      steps = ap (λ (t : StepTally). t.steps) tally_is ∙ was.steps;
       feasible = omega (arith, was.feasible);
       accepted = omega (arith, was.accepted);
       walked = rw (walked-more old.league old.room block n (start_at old.history start) (trial, left) (drawn ∙ ap (trial_drawn block) was.walked.stream_is))
@@ -189,8 +189,8 @@ AreSteps-made {block} {n} {old} {start} {cost} {tally} {stream} {board} next tri
     }
 
 -- where it wasn't
-pub AreSteps-left : {block : Block} {n : ℕ} {old : Book} {start : Stream} {cost : Cost} {tally : Tally} {stream : Stream} {board : Book} (next : Book)
-    (trial : Trial) (left : Stream) (next_cost : Cost) (flag : ℕ) (next_tally : Tally) → AreSteps block n old start cost tally stream board →
+pub AreSteps-left : {block : Block} {n : ℕ} {old : Book} {start : Stream} {cost : Cost} {tally : StepTally} {stream : Stream} {board : Book} (next : Book)
+    (trial : Trial) (left : Stream) (next_cost : Cost) (flag : ℕ) (next_tally : StepTally) → AreSteps block n old start cost tally stream board →
     (trial, left) ≡ trial_drawn block stream →
     flag ≡ from_bool (counts_as_feasible block.apart cost) → None ≡ trial_cost board.league board.room board.history trial →
     next ≡ book board.league board.room (trial_history board.league board.room board.history 0 trial) → next_cost ≡ cost →
@@ -198,14 +198,14 @@ pub AreSteps-left : {block : Block} {n : ℕ} {old : Book} {start : Stream} {cos
     AreSteps block (n + 1) old start next_cost next_tally left next
 AreSteps-left {block} {n} {old} {start} {cost} {tally} {stream} {board} next trial left next_cost flag next_tally was drawn flag_is is next_is cost_is tally_is =
     let same : next ≡ board = left_on board next trial is next_is in
-    let feasible : next_tally.feasible ≡ tally.feasible + flag = ap (λ (t : Tally). t.feasible) tally_is in
-    let accepted : next_tally.accepted ≡ tally.accepted = ap (λ (t : Tally). t.accepted) tally_is in
+    let feasible : next_tally.feasible ≡ tally.feasible + flag = ap (λ (t : StepTally). t.feasible) tally_is in
+    let accepted : next_tally.accepted ≡ tally.accepted = ap (λ (t : StepTally). t.accepted) tally_is in
     let small : flag ≤ 1 = rw flag_is (flag_small (counts_as_feasible block.apart cost)) in
     record {
       from = rw (accepted, same) was.from;
       never_worse = rw same was.never_worse;
       cost_is = rw same (cost_is ∙ was.cost_is);
-      steps = ap (λ (t : Tally). t.steps) tally_is ∙ was.steps;
+      steps = ap (λ (t : StepTally). t.steps) tally_is ∙ was.steps;
       feasible = omega (arith, was.feasible);
       accepted = omega (arith, was.accepted);
       walked = rw (walked-more old.league old.room block n (start_at old.history start) (trial, left) (drawn ∙ ap (trial_drawn block) was.walked.stream_is))

@@ -9,7 +9,7 @@ use Rattle.moves.specs.declared.moves.MoveKind.{MoveKind}
 use Rattle.fixture_board.specs.declared.change.Entry.{Entry}
 use Rattle.policy.specs.declared.legs.MoveSet.TheVariants.{Loose}
 use Rattle.policy.specs.Legs.{kinds_of}
-use Rattle.search.specs.Draws.{drawn_among, each_round, stream_of_generator}
+use Rattle.draws.specs.Draws.{drawn_among, each_round, stream_of_generator}
 use Rattle.annealing.specs.Walks.{apart, moved_on, next_drawn, total_at, unless_none, walk_after, walk_begun, walk_with, Walk}
 
 abbrev pub walk_at : List Entry → Stream → List ℕ → Walk

@@ -15,7 +15,7 @@ use Rattle.fixture_board.specs.Replies.{greatest}
 use Rattle.fixture_board.specs.Trials.{trial_history}
 use Rattle.policy.specs.declared.legs.MoveSet.TheVariants.{Loose}
 use Rattle.policy.specs.Legs.{kinds_of}
-use Rattle.search.specs.Draws.{drawn_among, each_round, stream_of_generator}
+use Rattle.draws.specs.Draws.{drawn_among, each_round, stream_of_generator}
 use Rattle.annealing.specs.declared.unit.Unit.{Unit}
 
 -- the sum of the distances of all ordered pairs of teams

@@ -4,17 +4,17 @@ ghost use Rattle.std.specs.Prelude.{◌≡◌, ◌^◌, ◌<◌, ◌≤◌, Cont
 ghost use Rattle.league.specs.League.{IsLeague};
 ghost use Rattle.moves.specs.Moves.{kind_of};
 ghost use Rattle.costs.specs.Costs.{AreWeights};
-ghost use Rattle.search.specs.Draws.{CanDraw, stream_of_generator};
+ghost use Rattle.draws.specs.Draws.{CanDraw, stream_of_generator};
 ghost use Rattle.annealing.specs.within.Blocks.{counts_as_feasible, start_at, trial_drawn, walked, IsTallied};
 ghost use Rattle.annealing.specs.within.Boards.{least_in};
 ghost use Rattle.annealing.specs.Legs.{IsFrom};
 
 use crate::thresholds::threshold;
 use costs::{Cost, Weights};
+use draws::{Draws, draw_among};
 use fixture_board::{Board, Trial};
 use rand_core::Rng;
 use rand_pcg::Lcg64Xsh32;
-use search::{Draws, draw_among};
 
 /// The most steps of a block.
 pub(crate) const BLOCK: u64 = 1000;
@@ -35,7 +35,7 @@ pub(crate) struct Block<'a> {
 
 /// The tally of a block's steps.
 #[derive(Clone, Copy)]
-pub(crate) struct Tally {
+pub(crate) struct StepTally {
     pub(crate) steps: u32,
     /// At how many of them the schedule was feasible before its move, or broke no limit but rules if these weigh apart.
     pub(crate) feasible: u32,
@@ -45,7 +45,11 @@ pub(crate) struct Tally {
 
 /// Takes the steps of a block. Each draws a threshold and then a move, which is made if it can be and the score rises by no more than
 /// the threshold. Takes no memory.
-pub(crate) fn take_steps(board: &mut Board, generator: &mut Lcg64Xsh32, block: Block<'_>) -> Tally
+pub(crate) fn take_steps(
+    board: &mut Board,
+    generator: &mut Lcg64Xsh32,
+    block: Block<'_>,
+) -> StepTally
     requires league { IsLeague board.old.league }
     requires draws { CanDraw block.draws.teams block.draws.kinds.now block.draws.rounds.now }
     requires weights { AreWeights block.weights }
@@ -60,7 +64,7 @@ pub(crate) fn take_steps(board: &mut Board, generator: &mut Lcg64Xsh32, block: B
     ensures accepted { result.accepted ≤ result.steps }
 {
     let mut cost = board.cost();
-    let mut tally = Tally {
+    let mut tally = StepTally {
         steps: block.steps,
         feasible: 0,
         accepted: 0,

@@ -5,21 +5,21 @@ ghost use Rattle.league.specs.League.{teams};
 ghost use Rattle.fixture_board.specs.History.{best_of};
 ghost use Rattle.fixture_board.specs.Record.{Book};
 ghost use Rattle.policy.specs.Legs.{IsLeg, IsWeightCourse};
-ghost use Rattle.search.specs.Draws.{AreRoundsOf};
-ghost use Rattle.search.specs.Heard.{AreReported};
+ghost use Rattle.draws.specs.Draws.{AreRoundsOf};
+ghost use Rattle.draws.specs.Reported.{AreReported};
 ghost use Rattle.annealing.specs.within.Heats.{block_count};
 ghost use Rattle.annealing.specs.Legs.{IsAnnealed, total_in};
 ghost use Rattle.annealing.specs.within.Progress.{HasHeated, IsEndOf, IsGoing, IsWithin, progress_of};
 
-use crate::blocks::{BLOCK, Block, Tally, take_steps};
+use crate::blocks::{BLOCK, Block, StepTally, take_steps};
 use crate::boards::Boards;
 use crate::chain::{Annealed, Chain, Conditions, LegPlan};
 use crate::heats::{block_count, heat_at, hottest_of};
 use crate::weights::weight_after;
+use draws::{Draws, Gate, Progress, RunContext};
 use fixture_board::Board;
 use policy::{Course, Leg, LegEnd};
 use rand_pcg::Lcg64Xsh32;
-use search::{Draws, Gate, Progress, RunContext};
 use std::alloc::{AllocError, Global};
 use std::sync::Wait;
 
@@ -83,7 +83,7 @@ impl Going {
         conditions: Conditions<'_>,
         leg: Leg,
         number: u64,
-    ) -> Result<Tally, AllocError>
+    ) -> Result<StepTally, AllocError>
         requires leg { IsLeg leg }
         requires number { number < block_count leg }
         requires weights { IsWeightCourse conditions.weights }
@@ -115,7 +115,7 @@ impl Going {
     }
 
     /// The progress that is reported to the gate after a block.
-    fn progress(&self, tally: Tally) -> Progress
+    fn progress(&self, tally: StepTally) -> Progress
         ensures { result ≡ progress_of self.now tally }
     {
         Progress {

@@ -8,11 +8,11 @@ ghost use Rattle.annealing.specs.Walks.{IsUnitOf, changes_of, distance_sum, frac
 
 use crate::unit::Unit;
 use costs::Weights;
+use draws::{Draws, draw_among, each_round};
 use fixture_board::{Board, Trial};
 use league::League;
 use policy::MoveSet;
 use rand_pcg::Lcg64Xsh32;
-use search::{Draws, draw_among, each_round};
 use std::alloc::{AllocError, Global};
 
 /// How many moves the walk draws, and how many entries it may have.

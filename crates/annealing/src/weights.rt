@@ -4,12 +4,12 @@ ghost use Rattle.std.specs.Prelude.{◌≡◌, ◌≤◌};
 ghost use Rattle.policy.specs.Legs.{IsWeightCourse};
 ghost use Rattle.annealing.specs.within.Weights.{weight_after};
 
-use crate::blocks::Tally;
+use crate::blocks::StepTally;
 use policy::WeightCourse;
 
 /// The weight after a block. It grows by a fiftieth of it if the schedule was feasible at no step, falls by as much if it was so at each,
 /// and goes on between these with their share. It stays within its limits.
-pub(crate) fn weight_after(weights: WeightCourse, weight: u64, tally: Tally) -> u64
+pub(crate) fn weight_after(weights: WeightCourse, weight: u64, tally: StepTally) -> u64
     requires weights { IsWeightCourse weights }
     requires some { 1 ≤ tally.steps }
     requires share { tally.feasible ≤ tally.steps }

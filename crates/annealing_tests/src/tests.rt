@@ -5,7 +5,6 @@ mod chains;
 mod checks;
 mod leagues;
 mod legs;
-mod memory;
 mod reporting;
 mod rooms;
 mod steps;

@@ -4,10 +4,11 @@ ghost use Rattle.search.specs.within.RunParts.{IsFresh};
 
 use crate::plan::Plan;
 use crate::tries::SEED;
+use draws::NoGate;
 use fixture_board::Board;
 use fixtures::Schedule;
 use league::League;
-use search::{NoGate, OwnDoor, Report, SeatDoor, WorkerPlan, worker};
+use search::{OwnDoor, Report, SeatDoor, WorkerPlan, worker};
 use std::sync::Wait;
 
 /// The steps of a worker that has the board for itself.

@@ -10,12 +10,12 @@ ghost use Rattle.search.specs.within.Steps.{IsCopyCost};
 use crate::kind::Kind;
 use crate::plan::Plan;
 use costs::{Attempt, Cost, Evaluator, Weights, cost_of, make_within};
+use draws::draw;
 use fixtures::Schedule;
 use league::League;
 use league::limits::round_count;
 use moves::{Move, check, exchange};
 use rand_pcg::Lcg64Xsh32;
-use search::draw;
 use std::fmt;
 use std::fmt::Write;
 

@@ -11,6 +11,8 @@ mod proposals;
 mod together;
 
 use alone::climb;
+use board_texts::write_found;
+use byte_streams::{BufferedSink, WriteFault, WriterSink};
 use fixture_board::Board;
 use league::circular;
 use proposals::generator;
@@ -20,8 +22,6 @@ use std::process::ExitCode;
 use std::rt::Runtime;
 use std::sync::Wait;
 use std::thread::Threads;
-use streams::{BufferedSink, WriteFault, WriterSink};
-use texts::write_found;
 use together::{climb_together, replays};
 
 const TEAMS: u8 = 6;

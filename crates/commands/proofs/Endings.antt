@@ -1,29 +1,29 @@
 -- The endings of the commands.
 use Rattle.std.proofs.Common.{rules, ◌≡◌, ◌≤◌, ◌<◌, nat_lt, if◌then◌else◌, ℕ, List, [], length, Option, Some, None, IfSome, Result, Ok, Err, OnOk, OnErr, refl}
 use Rattle.std.specs.Io.KnownBytes.{Appends}
-use Rattle.streams.specs.Limits.{write_limit}
-use Rattle.streams.specs.declared.tally.Tally.{Tally}
-use Rattle.streams.specs.declared.writing.WriteFault.{WriteFault}
-use Rattle.streams.specs.Sending.{AppendsPrefix}
-use Rattle.streams.specs.Tally.{FailsWriting}
+use Rattle.byte_streams.specs.Limits.{write_limit}
+use Rattle.byte_streams.specs.declared.tally.Tally.{Tally}
+use Rattle.byte_streams.specs.declared.writing.WriteFault.{WriteFault}
+use Rattle.byte_streams.specs.Sending.{AppendsPrefix}
+use Rattle.byte_streams.specs.Tally.{FailsWriting}
 use Rattle.league.specs.League.{LeagueData, IsLeague}
-use Rattle.beginnings.specs.declared.begun.Beginning.{Beginning}
-use Rattle.distance_tables.specs.declared.sides.Symmetry.{Symmetry}
-use Rattle.distance_tables.specs.League.{GivesLeague, IsLeagueOf, rounded_in, table_for}
-use Rattle.distance_tables.specs.LeagueText.{Said}
-use Rattle.distance_tables.specs.Table.{TableData}
-use Rattle.distance_tables.specs.declared.table.MadeLeague.{MadeLeague}
-use Rattle.fixture_board.specs.History.{max_room}
+use Rattle.given_start.specs.declared.begun.Beginning.{Beginning}
+use Rattle.choices.specs.declared.symmetry.Symmetry.{Symmetry}
+use Rattle.league_csv.specs.League.{GivesLeague, IsLeagueOf, rounded_in, table_for}
+use Rattle.league_csv.specs.LeagueText.{Said}
+use Rattle.league_csv.specs.Table.{TableData}
+use Rattle.league_csv.specs.declared.table.MadeLeague.{MadeLeague}
+use Rattle.choices.specs.Limits.{max_room}
 use Rattle.fixture_board.specs.Record.{Book, book}
 use Rattle.fixture_board.specs.declared.board.BoardFault.{BoardFault}
 use Rattle.fixture_board.specs.declared.board.BoardFault.TheVariants as board
 use Rattle.search.specs.declared.runs.Outcome.{Outcome}
 use Rattle.search.specs.declared.runs.RunFault.{RunFault}
 use Rattle.search.specs.declared.runs.RunFault.TheVariants as run
-use Rattle.search.specs.declared.runs.SearchPlan.{SearchPlan}
+use Rattle.choices.specs.declared.search_plan.SearchPlan.{SearchPlan}
 use Rattle.search.specs.Outcomes.{IsFor, IsOutcome}
-use Rattle.texts.specs.PlayText.{play_text}
-use Rattle.texts.proofs.ForCallers.{played_again, plays_back}
+use Rattle.board_texts.specs.PlayText.{play_text}
+use Rattle.board_texts.proofs.ForCallers.{played_again, plays_back}
 use Rattle.commands.specs.declared.search_end.SearchEnd.{SearchEnd}
 use Rattle.commands.specs.Begun.{Begins}
 use Rattle.commands.specs.Outcome.{value_of, without_value, Answer, EndsOn}

@@ -1,7 +1,7 @@
 -- The ending of an improvement that came to nothing.
 use Rattle.std.proofs.Common.{ℕ, List, Option, Err, inr}
-use Rattle.streams.specs.declared.tally.Tally.{Tally}
-use Rattle.beginnings.specs.declared.begun.Beginning.{Beginning}
+use Rattle.byte_streams.specs.declared.tally.Tally.{Tally}
+use Rattle.given_start.specs.declared.begun.Beginning.{Beginning}
 use Rattle.improvement.specs.declared.plan.ImproveFault.{ImproveFault}
 use Rattle.improvement.specs.declared.plan.ImproveFault.TheVariants.{Workers, Write, Memory}
 use Rattle.improvement.specs.declared.plan.ImprovePlan.{ImprovePlan}

@@ -1,7 +1,7 @@
 -- The lines of the workers.
 use Rattle.std.proofs.Common.{◌≡◌, ℕ, ◌+◌, ◌<◌, add-one, List, ◌∷◌, ◌++◌, length, get_or, drop, refl, drop-cons}
 use Rattle.search.specs.declared.workers.Report.{Report}
-use Rattle.texts.specs.SearchText.{worker_line}
+use Rattle.board_texts.specs.SearchText.{worker_line}
 use Rattle.commands.specs.Find.{worker_lines}
 
 -- the lines of the reports from one on

@@ -1,21 +1,21 @@
 -- The ending of a report.
 use Rattle.std.proofs.Common.{◌≡◌, ℕ, List, Option, Some, None, option_map, Result, Ok, Err, OnOk, OnErr, ap, refl}
 use Rattle.std.specs.Io.KnownBytes.{Appends}
-use Rattle.streams.specs.Limits.{write_limit}
-use Rattle.streams.specs.declared.tally.Tally.{Tally}
-use Rattle.streams.specs.declared.writing.WriteFault.{WriteFault}
-use Rattle.streams.specs.Sending.{AppendsPrefix}
-use Rattle.streams.specs.Tally.{FailsWriting}
-use Rattle.advice.specs.Remarks.{remarks_on}
+use Rattle.byte_streams.specs.Limits.{write_limit}
+use Rattle.byte_streams.specs.declared.tally.Tally.{Tally}
+use Rattle.byte_streams.specs.declared.writing.WriteFault.{WriteFault}
+use Rattle.byte_streams.specs.Sending.{AppendsPrefix}
+use Rattle.byte_streams.specs.Tally.{FailsWriting}
+use Rattle.league_hints.specs.Remarks.{remarks_on}
 use Rattle.fixtures.specs.Games.{Games}
 use Rattle.league.specs.League.{LeagueData, teams}
-use Rattle.beginnings.specs.declared.begun.Beginning.{Beginning}
-use Rattle.schedule_tables.specs.declared.fault.TableFault.{TableFault}
-use Rattle.schedule_tables.specs.declared.fault.TableFault.TheVariants as table
-use Rattle.schedule_tables.specs.Table.{schedule_lines, GivesLines}
+use Rattle.given_start.specs.declared.begun.Beginning.{Beginning}
+use Rattle.schedule_csv.specs.declared.fault.TableFault.{TableFault}
+use Rattle.schedule_csv.specs.declared.fault.TableFault.TheVariants as table
+use Rattle.schedule_csv.specs.Table.{schedule_lines, GivesLines}
 use Rattle.schedule_texts.specs.Given.{IsVerdict}
-use Rattle.report_formats.specs.declared.format.Format.{Format}
-use Rattle.report_formats.specs.Format.{report_in}
+use Rattle.choices.specs.declared.format.Format.{Format}
+use Rattle.report_page.specs.Format.{report_in}
 use Rattle.commands.specs.declared.verdict.Verdict.{Verdict}
 use Rattle.commands.specs.Fault.{of_table}
 use Rattle.commands.specs.within.Fault.{of_writing}

@@ -1,9 +1,10 @@
 -- The league at which a command begins, or why there is none.
 use Rattle.std.specs.Prelude.{◌≡◌, ℕ, List, Option, Some, None, Result, Ok, Err}
-use Rattle.league.specs.League.{LeagueData, league_of}
-use Rattle.beginnings.specs.declared.fault.BeginFault.{BeginFault}
-use Rattle.beginnings.specs.declared.begun.Beginning.{Beginning}
-use Rattle.beginnings.specs.Begun.{begun}
+use Rattle.league.specs.League.{LeagueData}
+use Rattle.league_json.specs.League.{league_of}
+use Rattle.given_start.specs.declared.fault.BeginFault.{BeginFault}
+use Rattle.given_start.specs.declared.begun.Beginning.{Beginning}
+use Rattle.given_start.specs.Begun.{begun}
 use Rattle.commands.specs.declared.fault.ProgramFault.{ProgramFault}
 use Rattle.commands.specs.declared.fault.ProgramFault.TheVariants.{League, Begin}
 

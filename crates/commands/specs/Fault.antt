@@ -1,12 +1,12 @@
 -- The faults of the layers below, as faults of the program.
 use Rattle.league.specs.declared.fault.LeagueFault.{LeagueFault}
 use Rattle.league.specs.declared.fault.LeagueFault.TheVariants as league
-use Rattle.beginnings.specs.declared.fault.BeginFault.{BeginFault}
-use Rattle.beginnings.specs.declared.fault.BeginFault.TheVariants as begin
-use Rattle.schedule_tables.specs.declared.fault.TableFault.{TableFault}
-use Rattle.schedule_tables.specs.declared.fault.TableFault.TheVariants as table
-use Rattle.distance_tables.specs.declared.fault.DistanceFault.{DistanceFault}
-use Rattle.distance_tables.specs.declared.fault.DistanceFault.TheVariants as distances
+use Rattle.given_start.specs.declared.fault.BeginFault.{BeginFault}
+use Rattle.given_start.specs.declared.fault.BeginFault.TheVariants as begin
+use Rattle.schedule_csv.specs.declared.fault.TableFault.{TableFault}
+use Rattle.schedule_csv.specs.declared.fault.TableFault.TheVariants as table
+use Rattle.league_csv.specs.declared.fault.DistanceFault.{DistanceFault}
+use Rattle.league_csv.specs.declared.fault.DistanceFault.TheVariants as distances
 use Rattle.fixture_board.specs.declared.board.BoardFault.{BoardFault}
 use Rattle.fixture_board.specs.declared.board.BoardFault.TheVariants as board
 use Rattle.search.specs.declared.runs.RunFault.{RunFault}

@@ -1,14 +1,14 @@
 -- What `ttp search` answers.
 use Rattle.std.specs.Prelude.{◌≡◌, ◌≤◌, ◌<◌, ℕ, ◌+◌, List, [], ◌∷◌, ◌++◌, length, Option, None, IfSome, Result, Ok, Err}
 use Rattle.league.specs.League.{LeagueData}
-use Rattle.fixture_board.specs.History.{max_room}
+use Rattle.choices.specs.Limits.{max_room}
 use Rattle.fixture_board.specs.Record.{book}
 use Rattle.search.specs.declared.runs.Outcome.{Outcome}
-use Rattle.search.specs.declared.runs.SearchPlan.{SearchPlan}
+use Rattle.choices.specs.declared.search_plan.SearchPlan.{SearchPlan}
 use Rattle.search.specs.declared.workers.Report.{Report}
 use Rattle.search.specs.Outcomes.{IsOutcome, IsWorkers}
-use Rattle.texts.specs.SearchText.{PlaysBack, found_text, plan_line, worker_line}
-use Rattle.beginnings.specs.declared.begun.Beginning.{Beginning}
+use Rattle.board_texts.specs.SearchText.{PlaysBack, found_text, plan_line, worker_line}
+use Rattle.given_start.specs.declared.begun.Beginning.{Beginning}
 use Rattle.commands.specs.declared.fault.ProgramFault.{ProgramFault}
 use Rattle.commands.specs.declared.fault.ProgramFault.TheVariants.{Room, Workers, Spawn, Receipts}
 use Rattle.commands.specs.declared.search_end.SearchEnd.{SearchEnd}

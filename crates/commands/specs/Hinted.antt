@@ -1,13 +1,13 @@
 -- The hint on a league's text that is refused.
 use Rattle.std.specs.Prelude.{◌≡◌, ℕ, List, Option, Some, None, option_map, codes}
 use Rattle.std.specs.Str.Lines.{lines}
-use Rattle.advice.specs.Firsts.{or_else}
-use Rattle.advice.specs.Hints.{IsHint}
-use Rattle.advice.specs.declared.hint.Hint.{Hint}
-use Rattle.advice.specs.declared.hint.Hint.TheVariants.{ScriptBehind, SheetBehind}
+use Rattle.league_hints.specs.Firsts.{or_else}
+use Rattle.league_hints.specs.Hints.{IsHint}
+use Rattle.league_hints.specs.declared.hint.Hint.{Hint}
+use Rattle.league_hints.specs.declared.hint.Hint.TheVariants.{ScriptBehind, SheetBehind}
 use Rattle.league.specs.declared.fault.LeagueFault.{LeagueFault}
 use Rattle.league.specs.declared.fault.LeagueFault.TheVariants.{NotJson}
-use Rattle.texts.specs.Input.{first_ending}
+use Rattle.text_lines.specs.Input.{first_ending}
 
 -- the first line on which a script or a sheet begins behind a brace, and not on a line of its own
 abbrev pub behind : List ℕ → Option Hint

@@ -1,13 +1,13 @@
 -- How `ttp improve` ends.
 use Rattle.std.specs.Prelude.{◌≡◌, ◌⊎◌, ℕ, List, is_some, Option, Some, None, Result, Ok, Err}
-use Rattle.streams.specs.declared.tally.Tally.{Tally}
+use Rattle.byte_streams.specs.declared.tally.Tally.{Tally}
 use Rattle.league.specs.League.{LeagueData}
 use Rattle.fixture_board.specs.declared.best.Best.{Best}
 use Rattle.improvement.specs.declared.plan.ImproveFault.{ImproveFault}
 use Rattle.improvement.specs.declared.plan.ImproveFault.TheVariants as improve
 use Rattle.improvement.specs.declared.plan.ImprovePlan.{ImprovePlan}
 use Rattle.improvement.specs.Outcome.{Improves}
-use Rattle.beginnings.specs.declared.begun.Beginning.{Beginning}
+use Rattle.given_start.specs.declared.begun.Beginning.{Beginning}
 use Rattle.commands.specs.declared.fault.ProgramFault.{ProgramFault}
 use Rattle.commands.specs.declared.fault.ProgramFault.TheVariants.{Workers, Write, Memory}
 use Rattle.commands.specs.declared.verdict.Verdict.{Verdict}

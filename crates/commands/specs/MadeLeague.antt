@@ -1,9 +1,9 @@
 -- What `ttp league` answers.
 use Rattle.std.specs.Prelude.{◌≡◌, ℕ, List, Option, unwrap_or, Result, Ok, Err}
-use Rattle.distance_tables.specs.declared.sides.Symmetry.{Symmetry}
-use Rattle.distance_tables.specs.League.{IsLeagueOf, rounded_in, table_for}
-use Rattle.distance_tables.specs.LeagueText.{Said}
-use Rattle.distance_tables.specs.Table.{TableData}
+use Rattle.choices.specs.declared.symmetry.Symmetry.{Symmetry}
+use Rattle.league_csv.specs.League.{IsLeagueOf, rounded_in, table_for}
+use Rattle.league_csv.specs.LeagueText.{Said}
+use Rattle.league_csv.specs.Table.{TableData}
 use Rattle.commands.specs.declared.fault.ProgramFault.{ProgramFault}
 use Rattle.commands.specs.declared.fault.ProgramFault.TheVariants.{Distances}
 

@@ -1,11 +1,11 @@
 -- How a command ends that writes a text.
 use Rattle.std.specs.Prelude.{◌≡◌, ◌⊎◌, ◌+◌, ◌<◌, ◌≤◌, ℕ, List, Option, Some, None, Result, Ok, Err, length}
 use Rattle.std.specs.Io.KnownBytes.{Consumes, IsAtEnd, Appends}
-use Rattle.streams.specs.Limits.{input_limit, read_limit, write_limit}
-use Rattle.streams.specs.declared.tally.Tally.{Tally}
-use Rattle.streams.specs.Reading.{StopsPast, StopsWithin}
-use Rattle.streams.specs.Sending.{AppendsPrefix}
-use Rattle.streams.specs.Tally.{FailsWriting}
+use Rattle.byte_streams.specs.Limits.{input_limit, read_limit, write_limit}
+use Rattle.byte_streams.specs.declared.tally.Tally.{Tally}
+use Rattle.byte_streams.specs.Reading.{StopsPast, StopsWithin}
+use Rattle.byte_streams.specs.Sending.{AppendsPrefix}
+use Rattle.byte_streams.specs.Tally.{FailsWriting}
 use Rattle.commands.specs.declared.fault.ProgramFault.{ProgramFault}
 use Rattle.commands.specs.declared.fault.ProgramFault.TheVariants.{Read, TooLong, Write, Memory}
 

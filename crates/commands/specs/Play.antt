@@ -1,10 +1,10 @@
 -- What `ttp play` answers.
 use Rattle.std.specs.Prelude.{◌≡◌, ◌≤◌, ◌<◌, ℕ, List, Option, None, Result, Ok, Err}
 use Rattle.league.specs.League.{LeagueData}
-use Rattle.fixture_board.specs.History.{max_room}
-use Rattle.texts.specs.Input.{league_text, script_lines}
-use Rattle.texts.specs.PlayText.{IsPlayedAgain, play_text}
-use Rattle.beginnings.specs.declared.begun.Beginning.{Beginning}
+use Rattle.choices.specs.Limits.{max_room}
+use Rattle.text_lines.specs.Input.{league_text, script_lines}
+use Rattle.board_texts.specs.PlayText.{IsPlayedAgain, play_text}
+use Rattle.given_start.specs.declared.begun.Beginning.{Beginning}
 use Rattle.commands.specs.declared.fault.ProgramFault.{ProgramFault}
 use Rattle.commands.specs.declared.fault.ProgramFault.TheVariants.{Room}
 use Rattle.commands.specs.Begun.{Begins, Refuses}

@@ -1,15 +1,15 @@
 -- What `ttp report` answers.
 use Rattle.std.specs.Prelude.{◌≡◌, ℕ, List, Option, Some, None, option_map, Result, Ok, Err, codes}
 use Rattle.fixtures.specs.Games.{Games}
-use Rattle.advice.specs.Remarks.{remarks_on}
+use Rattle.league_hints.specs.Remarks.{remarks_on}
 use Rattle.league.specs.League.{LeagueData, teams}
-use Rattle.texts.specs.Input.{lines_after, text_before}
-use Rattle.schedule_tables.specs.Table.{schedule_lines}
+use Rattle.text_lines.specs.Input.{lines_after, text_before}
+use Rattle.schedule_csv.specs.Table.{schedule_lines}
 use Rattle.schedule_texts.specs.Given.{IsVerdict}
-use Rattle.reports.specs.Report.{is_feasible}
-use Rattle.report_formats.specs.declared.format.Format.{Format}
-use Rattle.report_formats.specs.Format.{report_in}
-use Rattle.beginnings.specs.declared.begun.Beginning.{Beginning}
+use Rattle.report_text.specs.Report.{is_feasible}
+use Rattle.choices.specs.declared.format.Format.{Format}
+use Rattle.report_page.specs.Format.{report_in}
+use Rattle.given_start.specs.declared.begun.Beginning.{Beginning}
 use Rattle.commands.specs.declared.fault.ProgramFault.{ProgramFault}
 use Rattle.commands.specs.declared.fault.ProgramFault.TheVariants.{Row, NoSheet}
 use Rattle.commands.specs.declared.verdict.Verdict.{Verdict}

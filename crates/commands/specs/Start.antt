@@ -2,8 +2,8 @@
 use Rattle.std.specs.Prelude.{◌≡◌, ℕ, List, Option, None, Result, Ok, Err}
 use Rattle.league.specs.Starts.{start_of}
 use Rattle.league.specs.League.{LeagueData}
-use Rattle.texts.specs.Sheet.{sheet_of}
-use Rattle.beginnings.specs.declared.begun.Beginning.{Beginning}
+use Rattle.text_lines.specs.Sheet.{sheet_of}
+use Rattle.given_start.specs.declared.begun.Beginning.{Beginning}
 use Rattle.commands.specs.declared.fault.ProgramFault.{ProgramFault}
 use Rattle.commands.specs.Begun.{Begins, Refuses}
 

@@ -6,8 +6,9 @@ ghost use Rattle.league.specs.Limits.{max_weight};
 ghost use Rattle.commands.specs.Begun.{begun_if, Begins, Refuses};
 
 use crate::fault::ProgramFault;
-use beginnings::{BeginFault, Beginning, begin};
-use league::{League, read_league};
+use given_start::{BeginFault, Beginning, begin};
+use league::League;
+use league_json::read_league;
 use std::alloc::Global;
 
 /// Reads a league's text, and has the league begin where it is to.

@@ -5,16 +5,15 @@ ghost use Rattle.commands.specs.declared.fault.ProgramFault.TheVariants.{Write, 
 ghost use Rattle.commands.specs.Fault.{of_beginning, of_board, of_distances, of_improve, of_league, of_run, of_table};
 ghost use Rattle.commands.specs.within.Fault.{of_reading, of_writing};
 
-use advice::Hint;
-use beginnings::BeginFault;
-use distance_tables::DistanceFault;
+use byte_streams::{ReadFault, WriteFault};
 use fixture_board::BoardFault;
+use given_start::BeginFault;
 use improvement::ImproveFault;
 use league::LeagueFault;
-use schedule_tables::{RowFault, TableFault};
+use league_csv::DistanceFault;
+use schedule_csv::{RowFault, TableFault};
 use search::RunFault;
 use std::alloc::AllocError;
-use streams::{ReadFault, WriteFault};
 use thiserror::Error;
 
 /// Why a command fails. Each text stands behind `ttp: ` on standard error.
@@ -29,9 +28,6 @@ pub enum ProgramFault {
     /// The input is no league.
     #[error("{0}")]
     League(LeagueFault),
-    /// The input is no league, and the hint tells where. It is a second line.
-    #[error("{0}\nttp: {1}")]
-    LeagueAt(LeagueFault, Hint),
     /// The league doesn't begin at what was given.
     #[error("{0}")]
     Begin(BeginFault),

@@ -9,12 +9,12 @@ ghost use Rattle.commands.specs.Outcome.{value_of, without_value};
 use crate::begun::begun_league;
 use crate::fault::ProgramFault;
 use crate::verdict::Verdict;
-use beginnings::Beginning;
+use byte_streams::{Sink, Source, read_all};
+use draws::{Gate, RunContext};
+use given_start::Beginning;
 use improvement::{ImprovePlan, NoWatcher, Watcher};
-use search::{Gate, RunContext};
 use std::sync::Wait;
 use std::thread::Threads;
-use streams::{Sink, Source, read_all};
 
 /// Reads a league to the end of the source, anneals its schedule in the legs of the policy, and writes a line for each leg and each
 /// better schedule as soon as it is known, then the history that leads to the best. That history, given to `play` as a script,

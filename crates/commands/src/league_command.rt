@@ -2,13 +2,14 @@
 
 ghost use Rattle.commands.specs.MadeLeague.{AnswersLeague};
 ghost use Rattle.commands.specs.Outcome.{value_of, without_value, Ends, EndsOn};
-ghost use Rattle.distance_tables.specs.League.{AreSettings};
-ghost use Rattle.distance_tables.specs.LeagueText.{said_by};
+ghost use Rattle.league_csv.specs.League.{AreSettings};
+ghost use Rattle.league_csv.specs.LeagueText.{said_by};
 
 use crate::fault::{ProgramFault, after_writing};
-use distance_tables::{Settings, Symmetry, league_from_table};
+use byte_streams::{Sink, Source, read_all, write_all};
+use choices::Symmetry;
+use league_csv::{Settings, league_from_table};
 use std::alloc::Global;
-use streams::{Sink, Source, read_all, write_all};
 
 /// Reads a table of distances to the end of the source, and writes the text of a league of its teams. It gives how many distances were
 /// rounded. Nothing is written before all other faults are past, and no memory is taken from then on.

@@ -8,11 +8,12 @@ ghost use Rattle.commands.specs.Play.{AnswersPlay, AnswersPlayOn};
 
 use crate::begun::begun_league;
 use crate::fault::{ProgramFault, after_writing};
-use beginnings::Beginning;
+use board_texts::play_script;
+use byte_streams::{Sink, Source, read_all};
 use fixture_board::Board;
+use given_start::Beginning;
 use std::alloc::Global;
-use streams::{Sink, Source, read_all};
-use texts::{play_script, split_input};
+use text_lines::split_input;
 
 /// Reads a league and a script to the end of the source, plays the script on a board of that room, and writes the
 /// play text. The history in it, given as a script, leads to the same history. Nothing is written before all other

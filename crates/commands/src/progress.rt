@@ -2,18 +2,19 @@
 
 ghost use Rattle.std.specs.Prelude.{◌≡◌, OnOk, OnErr, Some, true, false};
 ghost use Rattle.std.specs.Io.KnownBytes.{Appends};
-ghost use Rattle.streams.specs.Sending.{AppendsPrefix};
-ghost use Rattle.texts.specs.ProgressText.{clear_line, progress_line};
+ghost use Rattle.byte_streams.specs.Sending.{AppendsPrefix};
+ghost use Rattle.board_texts.specs.ProgressText.{clear_line, progress_line};
 ghost use Rattle.commands.specs.within.Progress.{advance_of, first, is_due, last_after, pause_after, reached_with, seconds_left};
 ghost use Rattle.commands.specs.within.Progress.{seconds_of, steps_within};
 
+use board_texts::{Advance, write_clear, write_progress};
+use byte_streams::{BufferedSink, Sink, WriteFault};
+use choices::SearchPlan;
+use draws::{Gate, Progress};
 use fixture_board::Reply;
-use search::{Gate, Progress, SearchPlan};
 use std::sync::atomic::{AtomicU32, Ordering};
 use std::sync::{Mutex, Wait};
 use std::time::{Clock, Instant};
-use streams::{BufferedSink, Sink, WriteFault};
-use texts::{Advance, write_clear, write_progress};
 
 /// How many milliseconds pass between two lines.
 const PAUSE: u128 = 250;
@@ -45,7 +46,7 @@ pub enum Extent {
 pub struct ProgressLine<'a, C, W> {
     clock: &'a C,
     reached: Mutex<Reached>,
-    line: Mutex<Line<W>>,
+    line: Mutex<TerminalLine<W>>,
     /// The line's pause, which workers read at each step.
     pause: AtomicU32,
 }
@@ -63,7 +64,7 @@ impl<'a, C: Clock, W: Sink> ProgressLine<'a, C, W> {
             steps: 0,
             least: None,
         };
-        let line = Line {
+        let line = TerminalLine {
             terminal,
             extent,
             since: None,
@@ -148,7 +149,7 @@ impl Reached {
 
 /// The line on the terminal.
 #[derive(Drop)]
-struct Line<W> {
+struct TerminalLine<W> {
     terminal: W,
     extent: Extent,
     /// When the first worker began.
@@ -167,7 +168,7 @@ struct Line<W> {
     again: bool,
 }
 
-impl<W: Sink> Line<W> {
+impl<W: Sink> TerminalLine<W> {
     /// Notes when the first worker began, and that one has.
     fn begin(&mut self, now: Instant)
         ensures { self.new ≡ record self.old

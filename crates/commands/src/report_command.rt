@@ -9,15 +9,16 @@ ghost use Rattle.commands.specs.Report.{AnswersReport, AnswersReportOn};
 use crate::begun::begun_league;
 use crate::fault::{ProgramFault, after_writing};
 use crate::verdict::Verdict;
-use advice::remarks_on;
-use beginnings::Beginning;
-use report_formats::{Format, prepare, write_prepared};
-use reports::is_feasible;
-use schedule_tables::schedule_text;
+use byte_streams::{Sink, Source, read_all};
+use choices::Format;
+use given_start::Beginning;
+use league_hints::remarks_on;
+use report_page::{prepare, write_prepared};
+use report_text::is_feasible;
+use schedule_csv::schedule_text;
 use schedule_texts::judge;
 use std::alloc::Global;
-use streams::{Sink, Source, read_all};
-use texts::split_at_line;
+use text_lines::split_at_line;
 
 /// Reads a league, a line `sheet` and a schedule, as a text or a table, to the end of the source, and writes the report: the games and what they
 /// cost in the format if they are a double round robin of the league's teams, otherwise what is wrong with them, as text. Behind

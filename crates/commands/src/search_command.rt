@@ -9,12 +9,14 @@ use crate::begun::begun_league;
 use crate::fault::{ProgramFault, after_writing};
 use crate::search_end::SearchEnd;
 use crate::search_text::search_report;
-use beginnings::Beginning;
+use byte_streams::{Sink, Source, read_all};
+use choices::SearchPlan;
+use draws::{Gate, RunContext};
 use fixture_board::Board;
-use search::{Gate, RunContext, SearchPlan, run_with};
+use given_start::Beginning;
+use search::run_with;
 use std::sync::Wait;
 use std::thread::Threads;
-use streams::{Sink, Source, read_all};
 
 /// Reads a league to the end of the source, has the plan's workers search on a board of that room, and writes the
 /// search text of what they came to. The history in it, given to `play` as a script, leads to the same games and the

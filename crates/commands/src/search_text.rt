@@ -2,15 +2,15 @@
 
 ghost use Rattle.std.specs.Prelude.{OnOk, OnErr};
 ghost use Rattle.std.specs.Io.KnownBytes.{Appends};
-ghost use Rattle.streams.specs.Limits.{write_limit};
-ghost use Rattle.streams.specs.Sending.{AppendsPrefix};
-ghost use Rattle.streams.specs.Tally.{FailsWriting};
-ghost use Rattle.streams.specs.Writing.{Writes};
+ghost use Rattle.byte_streams.specs.Limits.{write_limit};
+ghost use Rattle.byte_streams.specs.Sending.{AppendsPrefix};
+ghost use Rattle.byte_streams.specs.Tally.{FailsWriting};
+ghost use Rattle.byte_streams.specs.Writing.{Writes};
 ghost use Rattle.commands.specs.Find.{search_text, worker_lines};
 
+use board_texts::{write_found, write_plan, write_worker};
+use byte_streams::{BufferedSink, Sink, WriteFault};
 use search::{Outcome, Reports};
-use streams::{BufferedSink, Sink, WriteFault};
-use texts::{write_found, write_plan, write_worker};
 
 /// Writes the search text of an outcome. Takes no memory. After a fault a prefix of the text went out.
 pub fn search_report<W: Sink>(outcome: &Outcome, sink: &mut W) -> Result<(), WriteFault>

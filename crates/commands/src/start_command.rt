@@ -7,10 +7,10 @@ ghost use Rattle.commands.specs.Start.{AnswersStart, AnswersStartOn};
 
 use crate::begun::begun_league;
 use crate::fault::{ProgramFault, after_writing};
-use beginnings::Beginning;
+use byte_streams::{Sink, Source, read_all};
+use given_start::Beginning;
 use std::alloc::Global;
-use streams::{Sink, Source, read_all};
-use texts::sheet;
+use text_lines::sheet;
 
 /// Reads a league to the end of the source, and writes the sheet of its start. Nothing is written before all other
 /// faults are past, and no memory is taken from then on.

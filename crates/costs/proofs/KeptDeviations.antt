@@ -16,9 +16,9 @@ use Rattle.league.specs.declared.rule.Rule.{Rule}
 use Rattle.league.proofs.ForCallers.{has_empty, lowest_gone, others_kept}
 use Rattle.fixtures.specs.Exchanges.{exchanged_by}
 use Rattle.fixtures.specs.Games.{Games}
-use Rattle.robinx.specs.Deviations.{deviation}
-use Rattle.robinx.specs.Parts.{deviation_part}
-use Rattle.robinx.proofs.ForCallers.{part_le}
+use Rattle.rules.specs.Deviations.{deviation}
+use Rattle.rules.specs.Parts.{deviation_part}
+use Rattle.rules.proofs.ForCallers.{part_le}
 use Rattle.rule_index.proofs.ForCallers.{nothing_else_altered}
 use Rattle.costs.specs.within.CostParts.{IsScope, KnowsRules}
 use Rattle.costs.specs.within.KeptDeviations.{AreKeptDeviations, AreRests, IsKeptOf, rest_at}

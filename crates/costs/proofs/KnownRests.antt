@@ -10,9 +10,9 @@ use Rattle.league.specs.declared.rule.Weight.{Weight}
 use Rattle.league.proofs.ForCallers.{has_empty, lowest_below, sum_below_add, sum_below_same, sum_where_none, sum_where_without}
 use Rattle.fixtures.specs.Games.{Games, IsDoubleRoundRobin}
 use Rattle.fixtures.specs.Exchanges.{exchanged_by}
-use Rattle.robinx.specs.Deviations.{deviation}
-use Rattle.robinx.specs.Parts.{deviation_part}
-use Rattle.robinx.proofs.ForCallers.{part_le}
+use Rattle.rules.specs.Deviations.{deviation}
+use Rattle.rules.specs.Parts.{deviation_part}
+use Rattle.rules.proofs.ForCallers.{part_le}
 use Rattle.costs.specs.Costs.{cost_of, hard_penalty, penalty_of, score_by, score_limit, soft_penalty}
 use Rattle.costs.specs.within.CostParts.{alterable_penalties, penalties_part, rule_part, halves_part, with_halves, with_penalties, IsPredicted, IsRest, IsScope, KnowsRules}
 use Rattle.costs.specs.within.KeptDeviations.{AreKeptDeviations}

@@ -12,7 +12,7 @@ use Rattle.fixtures.specs.Games.{Games}
 use Rattle.fixtures.specs.TouchedCells.{TouchedCells}
 use Rattle.tours.specs.Phased.{is_unphased, unphased, unphased_part}
 use Rattle.fixtures.specs.declared.exchanges.Exchange.{Exchange}
-use Rattle.robinx.proofs.ForCallers.{part_le}
+use Rattle.rules.proofs.ForCallers.{part_le}
 use Rattle.costs.specs.Costs.{hard_penalty, soft_penalty, penalty_of, sum_over_rules, near_cost, cost_of}
 use Rattle.league.specs.Sums.{sum_where}
 use Rattle.costs.specs.within.CostParts.{alterable_penalties, games_cost, halves_part, rule_part, IsPredicted}

@@ -25,9 +25,9 @@ use Rattle.tours.specs.Phased.{unphased, unphased_part}
 use Rattle.tours.specs.Tours.{travel}
 use Rattle.tours.proofs.ForCallers.{unphased_balance_around}
 use Rattle.league.specs.declared.rule.RuleBody.{RuleBody}
-use Rattle.robinx.specs.Deviations.{deviation}
-use Rattle.robinx.specs.Parts.{deviation_part}
-use Rattle.robinx.proofs.ForCallers.{deviation_balance}
+use Rattle.rules.specs.Deviations.{deviation}
+use Rattle.rules.specs.Parts.{deviation_part}
+use Rattle.rules.proofs.ForCallers.{deviation_balance}
 use Rattle.costs.specs.Costs.{hard_penalty, soft_penalty, penalty_of, sum_over_rules, where_phased, cost_of, score_by, score_of}
 use Rattle.costs.specs.Costs.{near_cost, score_limit, AreWeights, IsCostWithin}
 use Rattle.costs.specs.within.CostParts.{games_cost, halves_part, rule_part, rules_part, penalties_part, with_halves, with_penalties, IsRest, IsScope, IsPredicted}

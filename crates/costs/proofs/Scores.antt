@@ -20,14 +20,14 @@ use Rattle.tours.specs.Tours.{leg_count, leg, travel_of, travel}
 use Rattle.tours.specs.Streaks.{windows, is_streak, streaks_of, runs_over}
 use Rattle.tours.specs.Repeats.{repeats_after, repeats}
 use Rattle.tours.specs.Phased.{is_unphased, unphased}
-use Rattle.robinx.specs.Deviations.{deviation}
+use Rattle.rules.specs.Deviations.{deviation}
 use Rattle.costs.specs.Costs.{hard_penalty, soft_penalty, penalty_of, sum_over_rules, where_phased, cost_of, score_by, score_of}
 use Rattle.costs.specs.Costs.{near_cost, score_limit, unless_free, AreWeights}
 use Rattle.tours.specs.Moved.{is_moved, moved_from}
 use Rattle.costs.specs.declared.cost.Cost.{Cost}
 use Rattle.costs.specs.declared.weights.Weights.{Weights}
 use Rattle.league.specs.Starts.{start_round}
-use Rattle.robinx.proofs.ForCallers.{deviation_below}
+use Rattle.rules.proofs.ForCallers.{deviation_below}
 
 -- each of the costs is below the limit of scores
 pub record IsSmall (cost : Cost) : Type 0 where

@@ -19,7 +19,7 @@ use Rattle.costs.specs.declared.cost.Cost.{Cost}
 use Rattle.costs.specs.declared.penalties.Penalties.{Penalties}
 use Rattle.costs.specs.declared.scope.Scope.{Scope}
 use Rattle.costs.specs.declared.weights.Weights.{Weights}
-use Rattle.robinx.specs.Deviations.{deviation}
+use Rattle.rules.specs.Deviations.{deviation}
 use Rattle.costs.specs.Costs.{cost_of, hard_penalty, penalty_of, score_by, soft_penalty}
 use Rattle.costs.proofs.KeptDeviations.{AreBroken, no_deviation, no_part}
 use Rattle.costs.proofs.PartLimits.{hard_grows, hard_nothing, rule_part_le, soft_grows, soft_nothing, where_le, Grows}

@@ -11,7 +11,7 @@ use Rattle.tours.specs.Tours.{travel}
 use Rattle.tours.specs.Streaks.{runs_over}
 use Rattle.tours.specs.Repeats.{repeats}
 use Rattle.tours.specs.Phased.{unphased}
-use Rattle.robinx.specs.Deviations.{deviation}
+use Rattle.rules.specs.Deviations.{deviation}
 use Rattle.costs.specs.declared.cost.Cost.{Cost}
 use Rattle.costs.specs.declared.weights.Weights.{Weights}
 

@@ -9,7 +9,7 @@ use Rattle.league.specs.declared.rule.Weight.{Weight}
 use Rattle.league.specs.declared.rule.Weight.TheVariants.{Hard, Soft}
 use Rattle.league.specs.declared.rule.RuleBody.TheVariants.{Br2, Se1, Fa2}
 use Rattle.fixtures.specs.Games.{Games}
-use Rattle.robinx.specs.Deviations.{deviation}
+use Rattle.rules.specs.Deviations.{deviation}
 use Rattle.rule_index.specs.Index.{IndexRows, IsIndexOf}
 
 -- how far a schedule is from each rule, and the set of those that it breaks

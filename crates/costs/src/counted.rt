@@ -18,7 +18,7 @@ use crate::rule_costs::{known_penalties, parts_of_rules, with_rules};
 use crate::scope::Scope;
 use fixtures::{Schedule, Touched};
 use league::League;
-use robinx::deviation_part;
+use rules::deviation_part;
 use tours::unphased_part;
 
 /// A predicted cost without so many pairs in one half, and without these penalties of rules.

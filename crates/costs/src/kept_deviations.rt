@@ -8,7 +8,7 @@ use crate::scope::Scope;
 use fixtures::Schedule;
 use league::limits::MAX_RULES;
 use league::{League, Rule, RuleSet};
-use robinx::{HomeCounts, deviation, deviation_part};
+use rules::{HomeCounts, deviation, deviation_part};
 
 /// How many exchanges are judged while no deviation is known, before all are counted: about as many as cost the same.
 const TRIES: u8 = 16;
@@ -34,8 +34,8 @@ impl KeptDeviations {
     ghost use Rattle.league.specs.Limits.{deviation_limit, max_rules};
     ghost use Rattle.league.specs.RuleLimits.{IsBodyFor};
     ghost use Rattle.league.specs.Sets.{has, IsBelow};
-    ghost use Rattle.robinx.specs.Deviations.{deviation};
-    ghost use Rattle.robinx.specs.Parts.{deviation_part};
+    ghost use Rattle.rules.specs.Deviations.{deviation};
+    ghost use Rattle.rules.specs.Parts.{deviation_part};
     ghost use Rattle.costs.specs.within.KeptDeviations.{AreKeptDeviations, IsKeptOf, rest_at};
 
     /// Nothing counted yet.

@@ -14,7 +14,7 @@ use crate::penalties::Penalties;
 use crate::scope::Scope;
 use fixtures::Schedule;
 use league::{League, RuleSet};
-use robinx::{HomeCounts, deviation, deviation_part};
+use rules::{HomeCounts, deviation, deviation_part};
 
 /// Adds up the penalties of the rules in a schedule.
 #[tactic(auto, using(league::proofs::ForCallers::sums), unfolding(crate::specs::Costs::sum_over_rules))]

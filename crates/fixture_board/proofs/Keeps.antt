@@ -20,7 +20,8 @@ use Rattle.fixture_board.specs.declared.ask.Proposal.{Proposal}
 use Rattle.league.specs.Starts.{start_of, kept_games}
 use Rattle.fixtures.specs.Draft.{is_game_in_range}
 use Rattle.fixture_board.specs.History.{effect, effective, shifted, games_after, games_of, pinned, pins_after, pins_of}
-use Rattle.fixture_board.specs.History.{is_there, AllStand, Fits, May, IsLegal, max_room, cost_at, better}
+use Rattle.choices.specs.Limits.{max_room}
+use Rattle.fixture_board.specs.History.{is_there, AllStand, Fits, May, IsLegal, cost_at, better}
 use Rattle.fixture_board.specs.History.{best_prefix, best_at, as_best, best_of}
 use Rattle.fixture_board.specs.within.PinTable.{free, pin_entries, taken_back, ArePinsAt, IsFirstTable}
 use Rattle.fixture_board.specs.within.Kept.{IsLeader, Kept, FollowsHistory, IsGranted, entered, CanTakeBack, is_improved_by, improved_by}

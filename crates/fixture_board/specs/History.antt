@@ -90,10 +90,6 @@ abbrev pub May : LeagueData → List Entry → Change → Type 0
 May league h Undo = 0 < length (effective h)
 May league h change = Fits (games_of league h) (pins_of league h) change
 
--- the greatest room of a board
-abbrev pub max_room : ℕ
-max_room = 1048576
-
 abbrev pub legal_after : LeagueData → ℕ → List Entry → List Entry → Type 0
 legal_after league room before [] = Unit {0}
 legal_after league room before (e ∷ es) =

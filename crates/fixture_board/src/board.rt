@@ -15,15 +15,13 @@ mod copies;
 use crate::best::Best;
 use crate::change::Entry;
 use crate::state::State;
+use choices::MAX_ROOM;
 use costs::Cost;
 use fixtures::Schedule;
 use league::League;
 use std::alloc::Global;
 use std::marker::Model;
 use thiserror::Error;
-
-/// The greatest room of a board.
-pub const MAX_ROOM: u32 = 1_048_576;
 
 /// Why there is no board.
 #[derive(Clone, Copy, Debug, PartialEq, Eq, Error)]

@@ -17,8 +17,9 @@ mod trial;
 
 pub use ask::{Ask, Proposal};
 pub use best::Best;
-pub use board::{Board, BoardFault, MAX_ROOM, NewRefused};
+pub use board::{Board, BoardFault, NewRefused};
 pub use change::{Change, Entry};
+pub use choices::MAX_ROOM;
 pub use laws::{
     answer_tells_history, best_is_least, best_never_rises, empty_history_is_legal,
     legal_history_is_sound, next_history_is_legal, replay, rewinding_keeps_the_best,

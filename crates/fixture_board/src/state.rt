@@ -35,7 +35,7 @@ impl State {
     ghost use Rattle.std.specs.Prelude.{◌≡◌, ◌^◌, ◌<◌, ◌≤◌, [], length, IfOk};
     ghost use Rattle.costs.specs.Costs.{total_of};
     ghost use Rattle.costs.specs.Evaluators.{IsEvaluatorAt};
-    ghost use Rattle.fixture_board.specs.History.{max_room};
+    ghost use Rattle.choices.specs.Limits.{max_room};
     ghost use Rattle.fixture_board.specs.within.Kept.{kept_of, entered, HasMemory, FollowsHistory};
 
     /// Without an entry, on the start of the league. All memory is taken here.

@@ -23,7 +23,7 @@ use Rattle.improvement.specs.declared.chains.ChainBest.{ChainBest}
 use Rattle.improvement.specs.declared.broken.Part.{Part}
 use Rattle.improvement.specs.Laws.{CannotBeKept}
 use Rattle.improvement.specs.Legs.{AreLegs, LegRun, improves}
-use Rattle.texts.specs.SearchText.{games_at_best}
+use Rattle.board_texts.specs.SearchText.{games_at_best}
 
 -- ---- the first element that passes
 

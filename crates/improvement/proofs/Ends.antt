@@ -4,16 +4,17 @@ use Rattle.std.specs.Borrow.{MutBor}
 use Rattle.std.specs.Io.KnownBytes.{Appends}
 use Rattle.league.specs.League.{IsLeague, LeagueData}
 use Rattle.fixture_board.specs.declared.best.Best.{Best}
-use Rattle.fixture_board.specs.History.{best_of, max_room}
+use Rattle.choices.specs.Limits.{max_room}
+use Rattle.fixture_board.specs.History.{best_of}
 use Rattle.fixture_board.proofs.Next.{IsLegal-within}
 use Rattle.fixture_board.specs.Record.{Book}
-use Rattle.streams.specs.declared.buffered.BufferedSink.{BufferedSink}
-use Rattle.streams.specs.declared.tally.Tally.{Tally}
-use Rattle.streams.specs.Writing.{Adds, IsFreshOver, Stops, waiting_in}
-use Rattle.streams.proofs.Pieces.{Adds-stops, Adds-then}
-use Rattle.streams.proofs.Sendings.{AppendsAllBut-all}
-use Rattle.texts.specs.SearchText.{PlaysBack, improved_text}
-use Rattle.texts.proofs.ForCallers.{plays_back}
+use Rattle.byte_streams.specs.declared.buffered.BufferedSink.{BufferedSink}
+use Rattle.byte_streams.specs.declared.tally.Tally.{Tally}
+use Rattle.byte_streams.specs.Writing.{Adds, IsFreshOver, Stops, waiting_in}
+use Rattle.byte_streams.proofs.Pieces.{Adds-stops, Adds-then}
+use Rattle.byte_streams.proofs.Sendings.{AppendsAllBut-all}
+use Rattle.board_texts.specs.SearchText.{PlaysBack, improved_text}
+use Rattle.board_texts.proofs.ForCallers.{plays_back}
 use Rattle.annealing.specs.declared.unit.Unit.{Unit as Measure}
 use Rattle.improvement.specs.declared.reported.Reported.{Reported}
 use Rattle.annealing.specs.Walks.{IsUnitOf}

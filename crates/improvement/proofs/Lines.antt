@@ -18,16 +18,16 @@ use Rattle.improvement.specs.declared.legs.LegState.TheVariants.{InThread, Over}
 use Rattle.improvement.specs.declared.legs.RunningLeg.{RunningLeg}
 use Rattle.improvement.specs.declared.legs.Assignment.{Assignment}
 use Rattle.improvement.specs.declared.legs.WaitingLeg.{WaitingLeg}
-use Rattle.improvement.specs.declared.line.Line.{Line}
-use Rattle.improvement.specs.declared.stage.Beginning.{Beginning}
+use Rattle.improvement.specs.declared.line.LegQueue.{LegQueue}
+use Rattle.improvement.specs.declared.stage.LegBeginning.{LegBeginning}
 use Rattle.improvement.specs.within.Fields.{StageData, after_bout, at_best, begun_one, beginning_of, chain_for, entering, is_before}
 use Rattle.improvement.specs.within.Fields.{passing, passing_by, ranked}
 use Rattle.improvement.specs.Legs.{CanBegin, LegRun}
 use Rattle.improvement.specs.within.Lines.{CanEnd, IsAtBeginning, IsEntrant, IsLine, IsRunning, IsStage, IsState, IsWaiting, MayBegin, anew}
 use Rattle.improvement.specs.within.Lines.{left_in, steps_left, assignment_of_running, assignment_of_waiting, assigned_steps, assignments_of, waiting_for}
 use Rattle.policy.specs.declared.legs.Leg.{Leg}
-use Rattle.policy.specs.declared.waves.Source.{Source}
-use Rattle.policy.specs.declared.waves.Source.TheVariants.{Start, Own, Copies}
+use Rattle.policy.specs.declared.waves.LegSource.{LegSource}
+use Rattle.policy.specs.declared.waves.LegSource.TheVariants.{Start, Own, Copies}
 use Rattle.policy.specs.Legs.{IsLeg}
 
 can_begin_anew : (league : LeagueData) (legs : List LegRun) (chain : ℕ) → CanBegin league legs chain []
@@ -78,13 +78,13 @@ first_of : (P : Entrant → Type 0) (entrants : List Entrant) → All P entrants
 first_of P [] all = tt
 first_of P (e ∷ entrants) all = All-head P e entrants all
 
-chain_is : {start : Book} {legs : List LegRun} (source : Source) (before : List Entrant) → All (IsEntrant start legs) before →
+chain_is : {start : Book} {legs : List LegRun} (source : LegSource) (before : List Entrant) → All (IsEntrant start legs) before →
     IfSome (chain_for source before) (IsEntrant start legs)
 chain_is Start before all = tt
 chain_is {start} {legs} Own before all = first_of (IsEntrant start legs) before all
 chain_is {start} {legs} Copies before all = first_of (IsEntrant start legs) before all
 
-rest_is : {start : Book} {legs : List LegRun} (source : Source) (s : StageData) → s.wave.source ≡ source → IsStage start legs s →
+rest_is : {start : Book} {legs : List LegRun} (source : LegSource) (s : StageData) → s.wave.source ≡ source → IsStage start legs s →
     IsStage start legs (begun_one s)
 rest_is Start s same stage = rw same (record { before = stage.before; field = stage.field })
 rest_is {start} {legs} Own s same stage =
@@ -96,7 +96,7 @@ pub stage_begun : {start : Book} {legs : List LegRun} (s : StageData) (chain : O
 stage_begun s None stage = let next = rest_is s.wave.source s refl stage in record { before = next.before; field = next.field }
 stage_begun s (Some e) stage = rest_is s.wave.source s refl stage
 
-passing_is : {start : Book} {legs : List LegRun} (source : Source) (chain : Option Entrant) (s : StageData) →
+passing_is : {start : Book} {legs : List LegRun} (source : LegSource) (chain : Option Entrant) (s : StageData) →
     IfSome chain (IsEntrant start legs) → IsStage start legs s → IsStage start legs (passing_by source chain s)
 passing_is Start chain s is stage = stage
 passing_is Own None s is stage = stage
@@ -122,7 +122,7 @@ bout_begins : (start : Book) (legs : List LegRun) (s : StageData) (weight : ℕ)
 bout_begins start legs s weight None is = tt
 bout_begins start legs s weight (Some e) is = best_begins e is
 
-pub line_with : {start : Book} {legs : List LegRun} (line new : Line) (stream bout : ℕ) (leg : Leg) (b : Beginning) → IsLine start legs line →
+pub line_with : {start : Book} {legs : List LegRun} (line new : LegQueue) (stream bout : ℕ) (leg : Leg) (b : LegBeginning) → IsLine start legs line →
     IsStage start legs new.stage → IsLeg leg → MayBegin start legs b.chain b.board →
     new.waiting.items ≡ line.waiting.items ++ waiting_for stream bout leg b ∷ [] → new.running ≡ line.running → IsLine start legs new
 line_with {start} {legs} line new stream bout leg b is stage leg_is begins waiting running = record {
@@ -133,7 +133,7 @@ line_with {start} {legs} line new stream bout leg b is stage leg_is begins waiti
       (record { leg = leg_is; begins = begins }));
 }
 
-pub bout_lined : {start : Book} {legs : List LegRun} (line new : Line) (stream bout weight : ℕ) (leg : Leg) (b : Beginning) → IsLine start legs line →
+pub bout_lined : {start : Book} {legs : List LegRun} (line new : LegQueue) (stream bout weight : ℕ) (leg : Leg) (b : LegBeginning) → IsLine start legs line →
     IsLeg leg → b ≡ beginning_of line.stage weight (chain_for line.stage.wave.source line.stage.before) →
     new.stage ≡ after_bout line.stage (chain_for line.stage.wave.source line.stage.before) →
     new.waiting.items ≡ line.waiting.items ++ waiting_for stream bout leg b ∷ [] → new.running ≡ line.running → IsLine start legs new
@@ -141,18 +141,18 @@ bout_lined {start} {legs} line new stream bout weight leg b is leg_is same stage
     let chain = chain_for line.stage.wave.source line.stage.before in
     line_with line new stream bout leg b is
     (subst (IsStage start legs) (sym stage) (stage_begun line.stage chain is.stage)) leg_is
-    (subst (λ (x : Beginning). MayBegin start legs x.chain x.board) (sym same)
+    (subst (λ (x : LegBeginning). MayBegin start legs x.chain x.board) (sym same)
     (bout_begins start legs line.stage weight chain (chain_is line.stage.wave.source line.stage.before is.stage.before)))
     waiting running
 
-pub assignments_more : (line new : Line) (w : WaitingLeg) → new.waiting.items ≡ line.waiting.items ++ w ∷ [] → new.running ≡ line.running →
+pub assignments_more : (line new : LegQueue) (w : WaitingLeg) → new.waiting.items ≡ line.waiting.items ++ w ∷ [] → new.running ≡ line.running →
     assignments_of new ≡ assignments_of line ++ w.assignment ∷ []
 assignments_more line new w waiting running =
     rw (running, waiting, map-append assignment_of_waiting line.waiting.items (w ∷ []))
     (sym (append_assoc (map assignment_of_running line.running.items) (map assignment_of_waiting line.waiting.items) (w.assignment ∷ [])))
 
 -- a leg that waits has its steps left
-pub left_more : (line new : Line) (w : WaitingLeg) → new.waiting.items ≡ line.waiting.items ++ w ∷ [] → new.running ≡ line.running →
+pub left_more : (line new : LegQueue) (w : WaitingLeg) → new.waiting.items ≡ line.waiting.items ++ w ∷ [] → new.running ≡ line.running →
     left_in new ≡ steps_left new.series + (sum_by assigned_steps (assignments_of line) + assigned_steps w.assignment)
 left_more line new w waiting running =
     let added : sum_by assigned_steps (assignments_of new) ≡ sum_by assigned_steps (assignments_of line) + sum_by assigned_steps (w.assignment ∷ []) =
@@ -166,15 +166,15 @@ all_front P old new None same all = (subst (All P) same all, tt)
 all_front P old new (Some x) same all = (All-rest P x new old same all, All-head P x new (subst (All P) same all))
 
 -- the assignments of the line once so many legs are left that run
-abbrev assignments_with : Line → List RunningLeg → List Assignment
+abbrev assignments_with : LegQueue → List RunningLeg → List Assignment
 assignments_with line running = map assignment_of_running running ++ map assignment_of_waiting line.waiting.items
 
-front_is : (line : Line) (rest : List RunningLeg) (first : Option RunningLeg) → line.running.items ≡ option_to_list first ++ rest →
+front_is : (line : LegQueue) (rest : List RunningLeg) (first : Option RunningLeg) → line.running.items ≡ option_to_list first ++ rest →
     IfSome first (λ leg. assignments_of line ≡ leg.assignment ∷ assignments_with line rest)
 front_is line rest None same = tt
 front_is line rest (Some leg) same = rw same refl
 
-pub front_more : (old full line : Line) (rest : List RunningLeg) (first : Option RunningLeg) →
+pub front_more : (old full line : LegQueue) (rest : List RunningLeg) (first : Option RunningLeg) →
     (more : List Assignment) × (assignments_of full ≡ assignments_of old ++ more) → assignments_of line ≡ assignments_of full →
     line.running.items ≡ option_to_list first ++ rest →
     IfSome first (λ leg. (more : List Assignment) × (assignments_of old ++ more ≡ leg.assignment ∷ assignments_with line rest))
@@ -182,7 +182,7 @@ front_more old full line rest None assignments same taken = tt
 front_more old full line rest (Some leg) assignments same taken =
     (assignments.0, sym assignments.1 ∙ sym same ∙ front_is line rest (Some leg) taken)
 
-pub front_left : (old full line : Line) (rest : List RunningLeg) (first : Option RunningLeg) → left_in full ≡ left_in old →
+pub front_left : (old full line : LegQueue) (rest : List RunningLeg) (first : Option RunningLeg) → left_in full ≡ left_in old →
     assignments_of line ≡ assignments_of full → line.series ≡ full.series → line.running.items ≡ option_to_list first ++ rest →
     IfSome first (λ leg. assigned_steps leg.assignment + (steps_left line.series + sum_by assigned_steps (assignments_with line rest)) ≡ left_in old)
 front_left old full line rest None left same series taken = tt
@@ -192,7 +192,7 @@ front_left old full line rest (Some leg) left same series taken =
     omega (arith, left, assignments, ap steps_left series)
 
 -- a leg that waited runs
-pub line_run : {start : Book} {legs : List LegRun} (line new : Line) (w : WaitingLeg) (r : RunningLeg) → IsLine start legs line →
+pub line_run : {start : Book} {legs : List LegRun} (line new : LegQueue) (w : WaitingLeg) (r : RunningLeg) → IsLine start legs line →
     line.waiting.items ≡ w ∷ new.waiting.items → new.running.items ≡ line.running.items ++ r ∷ [] → new.stage ≡ line.stage →
     (IsWaiting start legs w → IsRunning start legs r) → IsLine start legs new
 line_run {start} {legs} line new w r is waiting running stage runs = record {
@@ -203,7 +203,7 @@ line_run {start} {legs} line new w r is waiting running stage runs = record {
   waiting = All-rest (IsWaiting start legs) w new.waiting.items line.waiting.items waiting is.waiting;
 }
 
-pub turns_run : (line : Line) (running : List RunningLeg) (waiting : List WaitingLeg) (w : WaitingLeg) (r : RunningLeg) →
+pub turns_run : (line : LegQueue) (running : List RunningLeg) (waiting : List WaitingLeg) (w : WaitingLeg) (r : RunningLeg) →
     line.waiting.items ≡ w ∷ waiting → running ≡ line.running.items ++ r ∷ [] → r.assignment ≡ w.assignment →
     map assignment_of_running running ++ map assignment_of_waiting waiting ≡ assignments_of line
 turns_run line running waiting w r left more assignment =

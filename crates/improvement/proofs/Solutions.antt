@@ -17,7 +17,7 @@ use Rattle.fixture_board.proofs.ForCallers.{games_of_teams}
 use Rattle.fixture_board.proofs.Least.{best_prefix-is_best}
 use Rattle.fixture_board.proofs.Rewinding.{same_best_rewound}
 use Rattle.fixture_board.proofs.Sound.{IsSound-legal}
-use Rattle.texts.specs.SearchText.{games_at_best}
+use Rattle.board_texts.specs.SearchText.{games_at_best}
 use Rattle.annealing.specs.Legs.{total_in}
 use Rattle.improvement.specs.Laws.{Fall, IsAtMost, IsEnd, IsSolution, newest, newest_total}
 use Rattle.improvement.specs.Legs.{AreLegs, LegRun, improves, improves_by, lead_of, least_in, least_reported, lesser, standing_of}

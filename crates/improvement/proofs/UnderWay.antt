@@ -8,10 +8,10 @@ use Rattle.league.specs.League.{LeagueData}
 use Rattle.fixture_board.specs.History.{IsLegal}
 use Rattle.fixture_board.specs.Laws.{least_of}
 use Rattle.fixture_board.specs.Record.{Book, book}
-use Rattle.streams.specs.declared.buffered.BufferedSink.{BufferedSink}
-use Rattle.streams.specs.declared.tally.Tally.{Tally}
-use Rattle.streams.specs.Writing.{Adds, Stops, waiting_in}
-use Rattle.streams.proofs.Pieces.{Adds-nothing, Adds-stops, Adds-then, Stops-more}
+use Rattle.byte_streams.specs.declared.buffered.BufferedSink.{BufferedSink}
+use Rattle.byte_streams.specs.declared.tally.Tally.{Tally}
+use Rattle.byte_streams.specs.Writing.{Adds, Stops, waiting_in}
+use Rattle.byte_streams.proofs.Pieces.{Adds-nothing, Adds-stops, Adds-then, Stops-more}
 use Rattle.annealing.specs.declared.chain.Annealed.{Annealed}
 use Rattle.annealing.specs.declared.unit.Unit.{Unit as Measure}
 use Rattle.annealing.specs.Legs.{AreFigures}
@@ -20,7 +20,7 @@ use Rattle.improvement.specs.declared.leg_text.ReportedLeg.{ReportedLeg}
 use Rattle.improvement.specs.declared.legs.RunningLeg.{RunningLeg}
 use Rattle.improvement.specs.declared.legs.Assignment.{Assignment}
 use Rattle.improvement.specs.declared.legs.WaitingLeg.{WaitingLeg}
-use Rattle.improvement.specs.declared.line.Line.{Line}
+use Rattle.improvement.specs.declared.line.LegQueue.{LegQueue}
 use Rattle.improvement.specs.declared.plan.ImproveFault.{ImproveFault}
 use Rattle.improvement.specs.declared.plan.ImproveFault.TheVariants.{Workers, Memory, Write}
 use Rattle.improvement.specs.declared.plan.ImprovePlan.{ImprovePlan}
@@ -68,7 +68,7 @@ module _ (start : Book) (legs : List LegRun) (run : LegRun) where
     field = All-weaker (IsEntrant start legs) (IsEntrant start (run ∷ legs)) entrant_later s.field is.field;
   }
 
-  pub line_later : (line : Line) → IsLine start legs line → IsLine start (run ∷ legs) line
+  pub line_later : (line : LegQueue) → IsLine start legs line → IsLine start (run ∷ legs) line
   line_later line is = record {
     stage = stage_later line.stage is.stage;
     running = All-weaker (IsRunning start legs) (IsRunning start (run ∷ legs)) running_later line.running.items is.running;
@@ -176,7 +176,7 @@ module _ {W : Type 0} (held : W → Option (List ℕ)) (tally : W → Tally) (st
   }
 
   -- the line goes on with the chain of the leg
-  pub under_way_more : {a b c : BufferedSink W} (leg : RunningLeg) (line new : Line) (reported reported' : Reported) (now : Annealed)
+  pub under_way_more : {a b c : BufferedSink W} (leg : RunningLeg) (line new : LegQueue) (reported reported' : Reported) (now : Annealed)
       (w : IsUnderWay held tally start unit plan a b (leg ∷ []) line reported) → CanEnd start w.sent.legs leg.assignment now →
       Adds held tally b c (leg_text now.chain.board.league unit (reported_leg reported leg.assignment now) reported.least now.chain.board.history) →
       waiting_in c ≡ [] →
@@ -197,7 +197,7 @@ module _ {W : Type 0} (held : W → Option (List ℕ)) (tally : W → Tally) (st
       }
 
   -- each leg took a step
-  pub few_reported : {a b : BufferedSink W} (legs : List RunningLeg) (line : Line) (reported : Reported) →
+  pub few_reported : {a b : BufferedSink W} (legs : List RunningLeg) (line : LegQueue) (reported : Reported) →
       IsUnderWay held tally start unit plan a b legs line reported → reported.legs ≤ plan.effort
   few_reported legs line reported w =
       omega (arith, w.steps, w.reported_is.count, legs_few start.league start.room w.sent.legs w.sent.are)
@@ -207,7 +207,7 @@ module _ {W : Type 0} (held : W → Option (List ℕ)) (tally : W → Tally) (st
   unfolding legs_text
   sent_none a none = record { legs = []; are = tt; sends = record { adds = Adds-nothing a; sent = none } }
 
-  pub under_way_none : (a : BufferedSink W) (line : Line) (reported : Reported) → waiting_in a ≡ [] →
+  pub under_way_none : (a : BufferedSink W) (line : LegQueue) (reported : Reported) → waiting_in a ≡ [] →
       ((legs : List LegRun) → IsLine start legs line) → left_in line ≡ plan.effort → reported.lead ≡ anew start → reported.least ≡ None → reported.legs ≡ 0 →
       reported.chains.bests.items ≡ [] → IsUnderWay held tally start unit plan a a [] line reported
   unfolding legs_text lead_of chains_of
@@ -220,7 +220,7 @@ module _ {W : Type 0} (held : W → Option (List ℕ)) (tally : W → Tally) (st
   }
 
   -- a leg is taken out of the line
-  pub under_way_next : {a b : BufferedSink W} (line new : Line) (reported : Reported) (first : Option RunningLeg) (leg : RunningLeg) →
+  pub under_way_next : {a b : BufferedSink W} (line new : LegQueue) (reported : Reported) (first : Option RunningLeg) (leg : RunningLeg) →
       IsUnderWay held tally start unit plan a b [] line reported → first ≡ Some leg →
       ((legs : List LegRun) → IsLine start legs line → IsLine start legs new) →
       ((legs : List LegRun) → IsLine start legs line → IfSome first (IsRunning start legs)) →
@@ -238,7 +238,7 @@ module _ {W : Type 0} (held : W → Option (List ℕ)) (tally : W → Tally) (st
         reported_is = w.reported_is;
       }
 
-  pub run_all_is : {a b : BufferedSink W} (line : Line) (reported : Reported) → IsUnderWay held tally start unit plan a b [] line reported →
+  pub run_all_is : {a b : BufferedSink W} (line : LegQueue) (reported : Reported) → IsUnderWay held tally start unit plan a b [] line reported →
       (plan.first ≡ None → left_in line ≡ 0) → HasRunAll held tally start unit plan a b reported
   run_all_is line reported w none = record {
     sent = w.sent;

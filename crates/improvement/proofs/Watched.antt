@@ -3,10 +3,10 @@ use Rattle.std.proofs.Common.{◌≡◌, ℕ, Bool, if◌then◌else◌, List, [
 use Rattle.std.specs.Io.KnownBytes.{Appends}
 use Rattle.league.specs.League.{LeagueData}
 use Rattle.fixture_board.specs.Record.{Book}
-use Rattle.streams.specs.declared.buffered.BufferedSink.{BufferedSink}
-use Rattle.streams.specs.declared.tally.Tally.{Tally}
-use Rattle.streams.specs.Writing.{waiting_in}
-use Rattle.streams.proofs.Sendings.{AppendsAllBut-all}
+use Rattle.byte_streams.specs.declared.buffered.BufferedSink.{BufferedSink}
+use Rattle.byte_streams.specs.declared.tally.Tally.{Tally}
+use Rattle.byte_streams.specs.Writing.{waiting_in}
+use Rattle.byte_streams.proofs.Sendings.{AppendsAllBut-all}
 use Rattle.annealing.specs.declared.chain.Annealed.{Annealed}
 use Rattle.annealing.specs.declared.unit.Unit.{Unit as Measure}
 use Rattle.annealing.specs.Walks.{IsUnitOf}

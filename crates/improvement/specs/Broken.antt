@@ -2,7 +2,7 @@
 use Rattle.std.specs.Prelude.{ℕ, ◌==◌, nat_lt, Bool, List, [], ◌∷◌, ◌++◌, length, slice_get, Option, Some, None, if◌then◌else◌}
 use Rattle.std.specs.Prelude.{codes, decimal}
 use Rattle.std.specs.List.{concat, count_by}
-use Rattle.streams.specs.Pieces.{pieces_below}
+use Rattle.byte_streams.specs.Pieces.{pieces_below}
 use Rattle.league.specs.League.{LeagueData}
 use Rattle.league.specs.declared.rule.Rule.{Rule}
 use Rattle.fixtures.specs.Games.{Games}
@@ -10,7 +10,7 @@ use Rattle.tours.specs.Phased.{unphased}
 use Rattle.tours.specs.Repeats.{repeats}
 use Rattle.tours.specs.Streaks.{runs_over}
 use Rattle.costs.specs.Costs.{hard_penalty, penalty_of, unless_free, where_phased}
-use Rattle.texts.specs.LeastHard.{rule_name}
+use Rattle.board_texts.specs.LeastHard.{rule_name}
 use Rattle.improvement.specs.declared.broken.Part.{Part}
 use Rattle.improvement.specs.declared.broken.Part.TheVariants.{Runs, Repeats, Halves, RuleAt}
 use Rattle.improvement.specs.declared.chains.ChainBest.{ChainBest}

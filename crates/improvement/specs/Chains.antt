@@ -3,7 +3,7 @@ use Rattle.std.specs.Prelude.{ℕ, ◌==◌, Bool, List, [], ◌∷◌, if◌the
 use Rattle.league.specs.League.{LeagueData}
 use Rattle.fixture_board.specs.declared.change.Entry.{Entry}
 use Rattle.fixture_board.specs.History.{best_prefix}
-use Rattle.texts.specs.SearchText.{games_at_best}
+use Rattle.board_texts.specs.SearchText.{games_at_best}
 use Rattle.improvement.specs.declared.chains.ChainBest.{ChainBest}
 use Rattle.improvement.specs.Legs.{LegRun, improves, standing_of}
 

@@ -11,8 +11,8 @@ use Rattle.policy.specs.declared.legs.Course.TheVariants.{Cools, Heats}
 use Rattle.policy.specs.declared.legs.LegEnd.{LegEnd}
 use Rattle.policy.specs.Legs.{kinds_of}
 use Rattle.annealing.specs.declared.unit.Unit.{Unit as Measure}
-use Rattle.texts.specs.SearchText.{improved_text}
-use Rattle.texts.specs.Sheet.{sheet_of}
+use Rattle.board_texts.specs.SearchText.{improved_text}
+use Rattle.text_lines.specs.Sheet.{sheet_of}
 use Rattle.improvement.specs.declared.leg_text.ReportedLeg.{ReportedLeg}
 use Rattle.improvement.specs.Broken.{broken_text}
 use Rattle.improvement.specs.Legs.{LegRun, lead_of, least_reported}

@@ -3,7 +3,8 @@ use Rattle.std.specs.Prelude.{◌≡◌, ◌⊎◌, ℕ, ◌≤◌, nat_lt, min,
 use Rattle.std.specs.Prelude.{Option, Some, None}
 use Rattle.league.specs.League.{LeagueData}
 use Rattle.fixture_board.specs.declared.change.Entry.{Entry}
-use Rattle.fixture_board.specs.History.{IsLegal, best_of, cost_at, max_room}
+use Rattle.choices.specs.Limits.{max_room}
+use Rattle.fixture_board.specs.History.{IsLegal, best_of, cost_at}
 use Rattle.fixture_board.specs.Laws.{least_of}
 use Rattle.fixture_board.specs.Record.{book}
 use Rattle.fixture_board.specs.Rewound.{rewound}

@@ -2,13 +2,14 @@
 use Rattle.std.specs.Prelude.{◌≡◌, ◌≤◌, ◌⊎◌, ℕ, Bool, true, List, length, Option, None, Result, Ok, Err}
 use Rattle.std.specs.Io.KnownBytes.{Appends}
 use Rattle.league.specs.League.{LeagueData}
-use Rattle.streams.specs.Limits.{write_limit}
-use Rattle.streams.specs.Sending.{AppendsPrefix}
-use Rattle.streams.specs.Tally.{FailsWriting}
-use Rattle.streams.specs.declared.tally.Tally.{Tally}
+use Rattle.byte_streams.specs.Limits.{write_limit}
+use Rattle.byte_streams.specs.Sending.{AppendsPrefix}
+use Rattle.byte_streams.specs.Tally.{FailsWriting}
+use Rattle.byte_streams.specs.declared.tally.Tally.{Tally}
 use Rattle.fixture_board.specs.declared.best.Best.{Best}
-use Rattle.fixture_board.specs.History.{best_of, max_room}
-use Rattle.texts.specs.SearchText.{PlaysBack}
+use Rattle.choices.specs.Limits.{max_room}
+use Rattle.fixture_board.specs.History.{best_of}
+use Rattle.board_texts.specs.SearchText.{PlaysBack}
 use Rattle.annealing.specs.declared.unit.Unit.{Unit as Measure}
 use Rattle.annealing.specs.Walks.{IsUnitOf}
 use Rattle.improvement.specs.declared.plan.ImprovePlan.{ImprovePlan}

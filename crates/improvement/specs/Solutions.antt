@@ -5,7 +5,7 @@ use Rattle.league.specs.League.{LeagueData}
 use Rattle.fixtures.specs.Games.{Games}
 use Rattle.fixture_board.specs.declared.change.Entry.{Entry}
 use Rattle.fixture_board.specs.History.{best_prefix}
-use Rattle.texts.specs.SearchText.{games_at_best}
+use Rattle.board_texts.specs.SearchText.{games_at_best}
 use Rattle.improvement.specs.Legs.{LegRun, least_in, least_reported}
 
 -- a schedule that is written, and the total behind it

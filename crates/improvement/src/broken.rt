@@ -2,7 +2,7 @@
 
 ghost use Rattle.std.specs.Prelude.{◌≡◌, ◌<◌, length, slice_get, All};
 ghost use Rattle.league.specs.League.{teams};
-ghost use Rattle.streams.specs.Writing.{Writes};
+ghost use Rattle.byte_streams.specs.Writing.{Writes};
 ghost use Rattle.costs.specs.Costs.{hard_penalty, penalty_of};
 ghost use Rattle.improvement.specs.Broken.{breaches, broken_if, broken_in, broken_line, broken_lines, part_name, rule_lines};
 ghost use Rattle.improvement.specs.within.Broken.{IsPartOf};
@@ -10,12 +10,12 @@ ghost use Rattle.improvement.specs.within.Chains.{IsInLeague};
 
 use crate::chains::Chains;
 use crate::reported::Reported;
+use byte_streams::{BufferedSink, Sink, WriteFault};
 use costs::counted_repeats;
 use fixtures::Schedule;
 use league::{League, Weight};
-use robinx::deviation;
-use streams::{BufferedSink, Sink, WriteFault};
-use texts::{Piece, class_name, write_pieces};
+use rules::deviation;
+use text_lines::{Piece, class_name, write_pieces};
 use tours::{runs_over, unphased};
 
 /// A part of what is hard.

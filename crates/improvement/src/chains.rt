@@ -3,7 +3,7 @@
 ghost use Rattle.std.specs.Prelude.{◌≡◌, [], IfOk, OnOk};
 ghost use Rattle.std.specs.List.{position_or_len};
 ghost use Rattle.fixture_board.specs.History.{best_prefix};
-ghost use Rattle.texts.specs.SearchText.{games_at_best};
+ghost use Rattle.board_texts.specs.SearchText.{games_at_best};
 ghost use Rattle.improvement.specs.Chains.{is_of, offered, reached};
 
 use crate::standing::Standing;

@@ -18,15 +18,15 @@ pub(crate) struct Entrant {
 
 /// Chains, the best one first.
 #[derive(Drop)]
-pub(crate) struct Field {
+pub(crate) struct EntrantField {
     pub(crate) entrants: VecDeque<Entrant>,
 }
 
-impl Field {
+impl EntrantField {
     pub(crate) fn new(alloc: Global) -> Self
         ensures { result.entrants.items ≡ [] }
     {
-        Field {
+        EntrantField {
             entrants: VecDeque::new(alloc),
         }
     }

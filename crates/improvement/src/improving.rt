@@ -2,10 +2,10 @@
 
 ghost use Rattle.std.specs.Prelude.{◌≡◌, ◌+◌, ◌<◌, ◌≤◌, List, [], ◌∷◌, IfOk, OnOk, IfNone, IfSome, None};
 ghost use Rattle.policy.specs.Limits.{max_effort};
-ghost use Rattle.streams.specs.declared.buffered.BufferedSink.{BufferedSink};
-ghost use Rattle.streams.specs.Writing.{waiting_in};
+ghost use Rattle.byte_streams.specs.declared.buffered.BufferedSink.{BufferedSink};
+ghost use Rattle.byte_streams.specs.Writing.{waiting_in};
 ghost use Rattle.league.specs.League.{teams};
-ghost use Rattle.search.specs.Draws.{AreRoundsOf};
+ghost use Rattle.draws.specs.Draws.{AreRoundsOf};
 ghost use Rattle.improvement.specs.Legs.{LegRun};
 ghost use Rattle.improvement.specs.within.Lines.{IsLine, IsRunning, left_in, assigned_steps};
 ghost use Rattle.improvement.specs.Outcome.{Improves};
@@ -17,23 +17,24 @@ use crate::chains::Chains;
 use crate::field::Entrant;
 use crate::leg_text::{ReportedLeg, write_leg};
 use crate::legs::RunningLeg;
-use crate::line::Line;
+use crate::line::LegQueue;
 use crate::plan::{ImproveFault, ImprovePlan};
 use crate::reported::Reported;
 use crate::rounds::free_rounds;
 use crate::setting::{Setting, start_board};
 use crate::watcher::{LegEnded, Watcher, Written};
 use annealing::{Annealed, measure};
+use board_texts::write_improved;
+use byte_streams::{BufferedSink, Sink};
+use choices::MAX_WORKERS;
+use draws::{Gate, RunContext};
 use fixture_board::Best;
 use league::League;
-use search::{Gate, MAX_WORKERS, RunContext};
 use std::alloc::AllocError;
 use std::snapshot::Snapshot;
 use std::sync::Wait;
 use std::thread;
 use std::thread::{Scope, Threads};
-use streams::{BufferedSink, Sink};
-use texts::write_improved;
 
 /// Runs the legs of the policy on chains of the league, and writes each better schedule as soon as it is known. The legs pass the
 /// run context's gate, and report to it how far they are. Each leg that has ended is reported to the watcher. Answers with the best version of
@@ -142,7 +143,7 @@ fn run_all<'s, E, T: Threads + Wait + Sync, G: Gate + Sync, W: Sink, V: Watcher<
 {
     setting.run_context.gate.begun(setting.run_context.rt, 0);
     let lent = Snapshot::of(&*out);
-    let mut line = Line::new(&setting);
+    let mut line = LegQueue::new(&setting);
     let mut reported = Reported {
         lead: setting.board_or_new(None)?,
         least: None,
@@ -160,7 +161,7 @@ fn run_all<'s, E, T: Threads + Wait + Sync, G: Gate + Sync, W: Sink, V: Watcher<
 fn next_leg<'s, E, T: Threads + Wait + Sync, G: Gate + Sync, W: Sink, V: Watcher<W>>(
     scope: &Scope<'s, E>,
     setting: Setting<'s, T, G>,
-    line: &mut Line,
+    line: &mut LegQueue,
     watcher: &mut V,
 ) -> Result<Option<RunningLeg>, AllocError>
     requires workers { 1 ≤ setting.plan.workers }
@@ -183,7 +184,7 @@ fn next_leg<'s, E, T: Threads + Wait + Sync, G: Gate + Sync, W: Sink, V: Watcher
 fn report_leg<'w, T: Threads + Wait + Sync, G: Gate + Sync, W: Sink, V: Watcher<W>>(
     setting: Setting<'_, T, G>,
     leg: RunningLeg,
-    line: &mut Line,
+    line: &mut LegQueue,
     reported: &mut Reported,
     lent: &Snapshot<BufferedSink<'w, W>>,
     out: &mut BufferedSink<'w, W>,

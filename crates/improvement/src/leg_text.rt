@@ -1,18 +1,19 @@
 //! The lines that are written when a leg has ended.
 
 ghost use Rattle.std.specs.Prelude.{◌≡◌, [], OnOk};
-ghost use Rattle.streams.specs.Writing.{Writes, waiting_in};
+ghost use Rattle.byte_streams.specs.Writing.{Writes, waiting_in};
 ghost use Rattle.policy.specs.Legs.{kinds_of};
-ghost use Rattle.texts.specs.Pieces.{text_of_piece};
+ghost use Rattle.text_lines.specs.Pieces.{text_of_piece};
 ghost use Rattle.improvement.specs.LegText.{first_heat, in_thousandths, kinds_words, last_heat, leg_line, leg_text, number_or_none};
 ghost use Rattle.improvement.specs.LegText.{solution_lines, solution_text};
 ghost use Rattle.improvement.specs.Solutions.{best_with, is_below};
 
 use annealing::Unit;
+use board_texts::write_best_sheet;
+use byte_streams::{BufferedSink, Sink, WriteFault};
 use fixture_board::Board;
 use policy::{Course, Leg, LegEnd, MoveSet};
-use streams::{BufferedSink, Sink, WriteFault};
-use texts::{Piece, write_best_sheet, write_pieces};
+use text_lines::{Piece, write_pieces};
 
 /// A leg that has ended.
 #[derive(Clone, Copy)]

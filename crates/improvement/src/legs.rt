@@ -4,7 +4,7 @@ ghost use Rattle.std.specs.Prelude.{◌≡◌, List, IfOk};
 ghost use Rattle.league.specs.League.{teams};
 ghost use Rattle.fixture_board.specs.Record.{Book};
 ghost use Rattle.policy.specs.Legs.{IsLeg, IsWeightCourse};
-ghost use Rattle.search.specs.Draws.{AreRoundsOf};
+ghost use Rattle.draws.specs.Draws.{AreRoundsOf};
 ghost use Rattle.annealing.specs.Legs.{IsAnnealed};
 ghost use Rattle.improvement.specs.declared.legs.Assignment.{Assignment};
 ghost use Rattle.improvement.specs.Legs.{LegRun};
@@ -12,9 +12,9 @@ ghost use Rattle.improvement.specs.within.Lines.{CanEnd, IsRunning, IsState, IsW
 
 use crate::setting::Setting;
 use annealing::{Annealed, Chain, Conditions, LegPlan, anneal};
+use draws::{Gate, RunContext};
 use fixture_board::Board;
 use policy::{Leg, WeightCourse};
-use search::{Gate, RunContext};
 use std::alloc::AllocError;
 use std::snapshot::Snapshot;
 use std::sync::Wait;
@@ -58,24 +58,24 @@ pub(crate) struct RunningLeg {
 }
 
 /// The result of a leg. Memory may run out in it.
-pub(crate) type Outcome = Result<Annealed, AllocError>;
+pub(crate) type LegOutcome = Result<Annealed, AllocError>;
 
 /// Where a leg is.
 #[derive(Drop)]
 pub(crate) enum LegState {
-    InThread(PromisedHandle<Outcome, Given>),
-    Over(Outcome),
+    InThread(PromisedHandle<LegOutcome, LegTask>),
+    Over(LegOutcome),
 }
 
 /// The promise of a leg's thread: it goes on from the chain that it was given.
 #[derive(Drop)]
-pub(crate) struct Given {
+pub(crate) struct LegTask {
     pub(crate) weights: WeightCourse,
     pub(crate) leg: Leg,
     pub(crate) chain: Snapshot<Chain>,
 }
 
-impl Promise<Outcome> for Given {
+impl Promise<LegOutcome> for LegTask {
     ghost use Rattle.std.specs.Prelude.{IfOk};
     ghost use Rattle.annealing.specs.Legs.{IsAnnealed};
 
@@ -137,7 +137,7 @@ fn run<'s, E, T: Threads + Wait + Sync, G: Gate + Sync>(
         };
         return LegState::Over(anneal(setting.run_context, conditions, chain, plan));
     }
-    let given = Given {
+    let given = LegTask {
         weights,
         leg: plan.leg,
         chain: Snapshot::of(&chain),
@@ -145,7 +145,7 @@ fn run<'s, E, T: Threads + Wait + Sync, G: Gate + Sync>(
     // what the thread promises is proved of captured references, not of a captured record of them
     match scope.spawn_with(
         given,
-        move || -> Outcome
+        move || -> LegOutcome
             requires leg { IsLeg plan.leg }
             requires weights { IsWeightCourse weights }
             requires rounds { AreRoundsOf (teams chain.board.league) rounds.now }
@@ -166,7 +166,7 @@ fn run<'s, E, T: Threads + Wait + Sync, G: Gate + Sync>(
 
 impl LegState {
     /// Waits for the leg's end.
-    pub(crate) fn outcome<T: Threads>(self, rt: &T) -> Outcome
+    pub(crate) fn outcome<T: Threads>(self, rt: &T) -> LegOutcome
         ensures { (start : Book) (legs : List LegRun) (assignment : Assignment) →
             IsState (CanEnd start legs assignment) self → IfOk result (CanEnd start legs assignment) }
     {

@@ -3,7 +3,7 @@
 ghost use Rattle.std.specs.Prelude.{◌≡◌, ◌+◌, ◌<◌, ◌≤◌, List, [], ◌∷◌, ◌++◌, length, IfOk, OnOk, IfNone, IfSome, true, false};
 ghost use Rattle.league.specs.League.{teams};
 ghost use Rattle.policy.specs.Limits.{max_effort};
-ghost use Rattle.search.specs.Draws.{AreRoundsOf};
+ghost use Rattle.draws.specs.Draws.{AreRoundsOf};
 ghost use Rattle.improvement.specs.declared.legs.Assignment.{Assignment};
 ghost use Rattle.improvement.specs.Legs.{LegRun};
 ghost use Rattle.improvement.specs.within.Aims.{breaks_rules, IsAimOf};
@@ -14,11 +14,11 @@ use crate::field::Entrant;
 use crate::legs::{Assignment, RunningLeg, WaitingLeg};
 use crate::series::Series;
 use crate::setting::Setting;
-use crate::stage::{Beginning, Stage};
+use crate::stage::{LegBeginning, Stage};
+use draws::Gate;
 use fixture_board::Board;
 use league::League;
 use policy::{Aim, Facts, Leg, LegEnd};
-use search::Gate;
 use std::alloc::{AllocError, Global};
 use std::collections::VecDeque;
 use std::sync::Wait;
@@ -49,14 +49,14 @@ fn aim_of(league: &League) -> Aim
 /// The line, and what comes after it. What gets in line, and when, follows the order in which the legs leave it. So it depends neither on
 /// the number of workers nor on how fast they are.
 #[derive(Drop)]
-pub(crate) struct Line {
+pub(crate) struct LegQueue {
     pub(crate) series: Series,
     pub(crate) stage: Stage,
     pub(crate) running: VecDeque<RunningLeg>,
     pub(crate) waiting: VecDeque<WaitingLeg>,
 }
 
-impl Line {
+impl LegQueue {
     /// Before the first wave.
     pub(crate) fn new<T, G>(setting: &Setting<'_, T, G>) -> Self
         requires { setting.now.plan.effort ≤ max_effort }
@@ -73,7 +73,7 @@ impl Line {
             aim: aim_of(league),
             breaks_rules: breaks_rules(setting.start),
         };
-        Line {
+        LegQueue {
             series: Series::new(facts, setting.plan),
             stage: Stage::none(alloc),
             running: VecDeque::new(alloc),
@@ -176,13 +176,13 @@ impl Line {
     }
 
     /// Has a leg get in line, behind all others. It draws from a stream of its own.
-    fn wait(&mut self, bout: u32, leg: Leg, beginning: Beginning) -> Result<(), AllocError>
+    fn wait(&mut self, bout: u32, leg: Leg, beginning: LegBeginning) -> Result<(), AllocError>
         ensures waiting { OnOk result (self.new.waiting.items ≡ self.old.waiting.items ++ waiting_for self.old.series.lined bout leg beginning ∷ []) }
         ensures running { self.new.running ≡ self.old.running }
         ensures left { steps_left self.new.series ≡ steps_left self.old.series }
         ensures stage { self.new.stage ≡ self.old.stage }
     {
-        let Beginning {
+        let LegBeginning {
             chain,
             weight,
             board,
@@ -243,7 +243,7 @@ impl Line {
             .policy
             .next_leg(assignment.bout, assignment.leg, end)
         {
-            Some(leg) => self.wait(assignment.bout, leg, Beginning::at_best(entrant)),
+            Some(leg) => self.wait(assignment.bout, leg, LegBeginning::at_best(entrant)),
             None => self.stage.end_bout(entrant),
         }
     }

@@ -3,8 +3,8 @@
 ghost use Rattle.std.specs.Prelude.{◌≡◌};
 ghost use Rattle.improvement.specs.declared.plan.ImproveFault.TheVariants.{Memory, Write};
 
+use byte_streams::WriteFault;
 use std::alloc::AllocError;
-use streams::WriteFault;
 use thiserror::Error;
 
 /// The plan of an improvement.

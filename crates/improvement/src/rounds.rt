@@ -3,12 +3,12 @@
 ghost use Rattle.std.specs.Prelude.{◌≡◌, ◌<◌, IfOk};
 ghost use Rattle.fixtures.specs.Games.{round_count};
 ghost use Rattle.league.specs.League.{teams};
-ghost use Rattle.search.specs.Draws.{AreRoundsOf};
+ghost use Rattle.draws.specs.Draws.{AreRoundsOf};
 
+use draws::each_round;
 use fixture_board::Board;
 use fixtures::Schedule;
 use league::League;
-use search::each_round;
 use std::alloc::{AllocError, Global};
 
 /// The rounds of the board's schedule that its league doesn't keep whole, or all if it keeps each of them.

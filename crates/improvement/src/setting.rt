@@ -7,9 +7,10 @@ ghost use Rattle.improvement.specs.within.Lines.{anew};
 
 use crate::plan::ImprovePlan;
 use annealing::Unit;
-use fixture_board::{Board, MAX_ROOM};
+use choices::MAX_ROOM;
+use draws::RunContext;
+use fixture_board::Board;
 use league::League;
-use search::RunContext;
 use std::alloc::{AllocError, Global};
 
 /// The setting that all legs share.

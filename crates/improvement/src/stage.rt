@@ -3,10 +3,10 @@
 ghost use Rattle.std.specs.Prelude.{◌≡◌, ◌<◌, nat_lt, if◌then◌else◌, [], Some, None, IfOk, OnOk};
 ghost use Rattle.improvement.specs.within.Fields.{after_bout, at_best, beginning_of, chain_for, entering, passing, stage_data};
 
-use crate::field::{Entrant, Field};
+use crate::field::{Entrant, EntrantField};
 use annealing::Chain;
 use fixture_board::Board;
-use policy::{Source, Wave};
+use policy::{LegSource, Wave};
 use std::alloc::{AllocError, Global};
 use std::marker::Model;
 use std::mem;
@@ -18,9 +18,9 @@ pub(crate) struct Stage {
     /// How many of its bouts have begun or were passed over.
     begun: u32,
     /// The chains of the field before it that none of these had.
-    before: Field,
+    before: EntrantField,
     /// The chains whose bouts have ended.
-    field: Field,
+    field: EntrantField,
     /// How many chains there were in all.
     chains: u64,
 }
@@ -35,7 +35,7 @@ impl Model for Stage {
 
 /// With what a leg begins.
 #[derive(Drop)]
-pub(crate) struct Beginning {
+pub(crate) struct LegBeginning {
     /// The number of its chain.
     pub(crate) chain: u64,
     /// The weight of the chain.
@@ -44,7 +44,7 @@ pub(crate) struct Beginning {
     pub(crate) board: Option<Board>,
 }
 
-impl Beginning {
+impl LegBeginning {
     /// At the best version of a chain, or at its last one if none is feasible.
     pub(crate) fn at_best(entrant: Entrant) -> Self
         ensures { result ≡ at_best entrant }
@@ -52,7 +52,7 @@ impl Beginning {
         let Entrant { number, chain } = entrant;
         let Chain { mut board, weight } = chain;
         board.rewind_to_best();
-        Beginning {
+        LegBeginning {
             chain: number,
             weight,
             board: Some(board),
@@ -67,15 +67,15 @@ impl Stage {
         ensures field { result.field ≡ [] }
     {
         let wave = Wave {
-            source: Source::Start,
+            source: LegSource::Start,
             bouts: 0,
             keep: 0,
         };
         Stage {
             wave,
             begun: 0,
-            before: Field::new(alloc),
-            field: Field::new(alloc),
+            before: EntrantField::new(alloc),
+            field: EntrantField::new(alloc),
             chains: 0,
         }
     }
@@ -86,7 +86,7 @@ impl Stage {
     {
         self.wave = wave;
         self.begun = 0;
-        self.before = mem::replace(&mut self.field, Field::new(alloc));
+        self.before = mem::replace(&mut self.field, EntrantField::new(alloc));
     }
 
     /// The number of the next bout, if there is one.
@@ -101,22 +101,26 @@ impl Stage {
     }
 
     /// Has the next bout begin. A new chain has this weight.
-    pub(crate) fn begin_bout(&mut self, alloc: Global, weight: u64) -> Result<Beginning, AllocError>
+    pub(crate) fn begin_bout(
+        &mut self,
+        alloc: Global,
+        weight: u64,
+    ) -> Result<LegBeginning, AllocError>
         requires { self.old.begun < self.old.wave.bouts }
         ensures beginning { IfOk result (λ b. b ≡ beginning_of self.old weight (chain_for self.old.wave.source self.old.before)) }
         ensures stage { OnOk result (self.new ≡ after_bout self.old (chain_for self.old.wave.source self.old.before)) }
     {
         self.begun += 1;
         let chain = match self.wave.source {
-            Source::Start => None,
-            Source::Own => self.before.entrants.pop_front(),
-            Source::Copies => self.before.copy_of_first(alloc)?,
+            LegSource::Start => None,
+            LegSource::Own => self.before.entrants.pop_front(),
+            LegSource::Copies => self.before.copy_of_first(alloc)?,
         };
         if let Some(entrant) = chain {
-            return Ok(Beginning::at_best(entrant));
+            return Ok(LegBeginning::at_best(entrant));
         }
         self.chains = self.chains.wrapping_add(1);
-        Ok(Beginning {
+        Ok(LegBeginning {
             chain: self.chains,
             weight,
             board: None,
@@ -130,7 +134,7 @@ impl Stage {
     {
         prove!(self.begun < self.wave.bouts);
         self.begun += 1;
-        if self.wave.source != Source::Own {
+        if self.wave.source != LegSource::Own {
             return Ok(());
         }
         match self.before.entrants.pop_front() {

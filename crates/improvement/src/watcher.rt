@@ -5,10 +5,10 @@ ghost use Rattle.improvement.specs.Watched.{HasLines, ended_as};
 
 use crate::leg_text::ReportedLeg;
 use crate::plan::ImprovePlan;
+use byte_streams::{BufferedSink, Sink};
 use fixture_board::Board;
 use league::League;
 use std::snapshot::Snapshot;
-use streams::{BufferedSink, Sink};
 
 /// A leg that has ended.
 #[derive(Clone, Copy, Debug, PartialEq, Eq)]

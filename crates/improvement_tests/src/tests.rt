@@ -7,16 +7,17 @@ mod workers;
 
 ghost use Rattle.std.specs.Prelude.{◌≤◌};
 
+use byte_streams::{MemorySink, RehearsedSink, Sink, Step};
+use draws::{NoGate, RunContext};
 use fixture_board::Best;
 use improvement::{ImproveFault, ImprovePlan, NoWatcher, improve};
-use league::{League, circular, read_league};
-use search::{NoGate, RunContext};
+use league::{League, circular};
+use league_json::read_league;
 use std::alloc::{AllocError, Global};
 use std::fmt::Debug;
 use std::process::Abort;
 use std::sync::Wait;
 use std::thread::Threads;
-use streams::{MemorySink, RehearsedSink, Sink, Step};
 
 /// Team 1 is to have no game at home.
 const NEVER_AT_HOME: &str = r#"{

@@ -1,5 +1,5 @@
 -- What the crates above cite: the start of a league, and the laws of sets and sums below.
-pub use Rattle.league.proofs.Beginnings.{round_robin_start, round_of_start, kept_pair}
+pub use Rattle.league.proofs.Beginnings.{round_robin_start, round_of_start, kept_pair, origin_for_none}
 pub use Rattle.sets.proofs.ForCallers.{has_no_pairs, has_with_pair, same_sets}
 pub use Rattle.sets.proofs.ForCallers.{sum_below_none, sum_below_more, sum_below_same, sum_below_zero, sum_below_le}
 pub use Rattle.sets.proofs.ForCallers.{sum_below_le_each, sum_below_add, sum_below_past, sum_below_swap, sum_below_only}

@@ -13,7 +13,7 @@ use Rattle.league.specs.Checks.{distance_of, is_team_count, IsDistanceTable}
 use Rattle.league.specs.Labels.{LabelData, no_labels}
 use Rattle.league.specs.League.{league_data, IsLeague}
 use Rattle.league.specs.Limits.{min_teams, max_teams, max_distance, default_at_most, default_hard_weight}
-use Rattle.league.specs.LeagueMembers.{is_team_name}
+use Rattle.league.specs.Names.{is_team_name}
 use Rattle.league.specs.Made.{apart, made_name, made_names, made_row, made_rows}
 use Rattle.league.specs.declared.origins.Start.TheVariants.{Berger}
 use Rattle.league.specs.Origins.{origin_at}

@@ -9,7 +9,7 @@ use Rattle.league.specs.Checks.{distance_of, IsDistanceTable}
 use Rattle.league.specs.Rows.{cut, table_of}
 use Rattle.league.specs.within.Rows.{joined}
 use Rattle.league.specs.Views.{texts}
-use Rattle.league.specs.within.Views.{rows, row_items}
+use Rattle.league.specs.Views.{rows, row_items}
 use Rattle.league.proofs.Tables.{HasColumns}
 
 pub get_or-rows : (table : List (Vec ℕ Global)) (a : ℕ) (row : Vec ℕ Global) → a < length table

@@ -1,11 +1,8 @@
 -- What a league calls itself, its teams in short, and its rounds.
-use Rattle.std.specs.Prelude.{ℕ, ◌||◌, ◌&&◌, ◌==◌, Bool, true, List, [], length, Option, Some, None, IsTrue, Result, Ok}
+use Rattle.std.specs.Prelude.{ℕ, ◌||◌, ◌&&◌, ◌==◌, Bool, true, List, [], length, Option, Some, None, IsTrue}
 use Rattle.std.specs.List.{list_all}
-use Rattle.serde_json.specs.Data.{Data}
-use Rattle.league.specs.declared.fault.LeagueFault.{LeagueFault}
-use Rattle.league.specs.LeagueMembers.{is_text_within, title_of, short_names_of, round_texts_of}
 use Rattle.league.specs.Limits.{max_title, max_short_name, max_round_text, round_count}
-use Rattle.league.specs.Reading.{◌>>=◌}
+use Rattle.league.specs.Names.{is_text_within}
 
 pub record LabelData : Type 0 where
   pub title : Option (List ℕ)
@@ -20,14 +17,6 @@ label_data title short_names round_texts =
 
 abbrev pub no_labels : LabelData
 no_labels = label_data None [] []
-
--- the labels of a text of n teams
-unfoldable pub labels_of : ℕ → ℕ → Data → Result LabelData LeagueFault
-labels_of format n d = do
-  title ← title_of format d
-  short_names ← short_names_of format n d
-  round_texts ← round_texts_of format (round_count n) d
-  Ok (label_data title short_names round_texts)
 
 -- so many texts, or none
 abbrev pub are_texts_for : ℕ → ℕ → List (List ℕ) → Bool

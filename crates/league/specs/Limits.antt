@@ -3,10 +3,6 @@ use Rattle.std.specs.Prelude.{ℕ}
 -- of teams, rounds and rules
 pub use Rattle.sets.specs.Limits.{min_teams, max_teams, max_rounds, max_rules, round_count}
 
--- of a league's text
-abbrev pub max_format : ℕ
-max_format = 3
-
 -- the bytes of a team's name
 abbrev pub max_name : ℕ
 max_name = 40

@@ -5,7 +5,7 @@ ghost use Rattle.std.specs.List.{list_all};
 ghost use Rattle.league.specs.Checks.{distance_of, is_team_count, is_square, are_in_range, has_zero_diagonal};
 ghost use Rattle.league.specs.Checks.{is_mirrored_at, is_symmetric, checked, IsDistanceTable};
 ghost use Rattle.league.specs.Limits.{max_distance, max_rules};
-ghost use Rattle.league.specs.within.Views.{rows};
+ghost use Rattle.league.specs.Views.{rows};
 
 use crate::fault::LeagueFault;
 use crate::limits::{MAX_DISTANCE, MAX_RULES, MAX_TEAMS, MIN_TEAMS};

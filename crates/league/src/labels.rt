@@ -1,7 +1,7 @@
 //! The names that a league gives itself, its teams in short, and its rounds.
 
 ghost use Rattle.std.specs.Prelude.{◌≡◌, ◌↔◌, IfOk, IsTrue, option_map, slice_get, string_bytes};
-ghost use Rattle.league.specs.Labels.{no_labels};
+ghost use Rattle.league.specs.Labels.{label_data, no_labels};
 ghost use Rattle.league.specs.Views.{texts};
 
 use crate::text_lists::{are_same_texts, duplicate_texts};
@@ -10,12 +10,12 @@ use std::marker::Model;
 
 /// The texts that a league may have besides the names of its teams.
 #[derive(Debug, Drop)]
-pub(crate) struct Labels {
-    pub(crate) title: Option<String>,
+pub struct Labels {
+    title: Option<String>,
     /// One for each team, or none.
-    pub(crate) short_names: Vec<String>,
+    short_names: Vec<String>,
     /// One for each round, or none.
-    pub(crate) round_texts: Vec<String>,
+    round_texts: Vec<String>,
 }
 
 impl Model for Labels {
@@ -29,6 +29,17 @@ impl Model for Labels {
 }
 
 impl Labels {
+    /// These: a short name for each team, or none, and a text for each round, or none.
+    pub fn new(title: Option<String>, short_names: Vec<String>, round_texts: Vec<String>) -> Labels
+        ensures { result ≡ label_data (option_map string_bytes title) (texts short_names.items) (texts round_texts.items) }
+    {
+        Labels {
+            title,
+            short_names,
+            round_texts,
+        }
+    }
+
     /// None.
     pub(crate) fn none(alloc: Global) -> Labels
         ensures { result ≡ no_labels }

@@ -5,8 +5,7 @@ ghost use Rattle.league.specs.Checks.{IsDistanceTable};
 ghost use Rattle.league.specs.Limits.{min_teams, max_teams, max_rounds, max_distance, max_weight, max_rules};
 ghost use Rattle.league.specs.Rows.{table_of};
 ghost use Rattle.league.specs.within.Rows.{joined};
-ghost use Rattle.league.specs.Views.{texts};
-ghost use Rattle.league.specs.within.Views.{rows};
+ghost use Rattle.league.specs.Views.{texts, rows};
 
 mod beginnings;
 
@@ -19,11 +18,15 @@ use std::marker::Model;
 
 /// The settings of a league beside its teams, distances, rules and start.
 #[derive(Clone, Copy, Debug, Drop, PartialEq, Eq)]
-pub(crate) struct Terms {
-    pub(crate) at_most: u8,
-    pub(crate) hard_weight: u32,
-    pub(crate) phased: bool,
-    pub(crate) free_repeats: bool,
+pub struct Terms {
+    /// How many rounds in a row a team may play at home, and how many away.
+    pub at_most: u8,
+    /// The weight of each breach of a hard limit.
+    pub hard_weight: u32,
+    /// Whether the two games of each pair of teams belong into different halves of the season.
+    pub phased: bool,
+    /// Whether they may stand in rounds one after the other.
+    pub free_repeats: bool,
 }
 
 /// Teams, the distances between their homes, the limits of a schedule and the rules on it. Teams are numbered from 0.
@@ -57,7 +60,8 @@ impl League {
     ghost use Rattle.league.specs.Origins.{origin_at};
     ghost use Rattle.league.specs.RuleLimits.{IsRuleFor};
 
-    pub(crate) fn new(
+    /// The league of these teams, with a row of distances for each. Copies the distances, and keeps the rest as it is.
+    pub fn new(
         alloc: Global,
         names: Vec<String>,
         distances: &[Vec<u64>],

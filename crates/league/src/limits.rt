@@ -2,13 +2,6 @@
 
 pub use sets::limits::{MAX_ROUNDS, MAX_TEAMS, MIN_TEAMS, round_count};
 
-/// The first format of a league's text.
-pub(crate) const FIRST_FORMAT: u64 = 1;
-/// The second, which has the order of the start, the phased mode and the rules of class FA2 besides.
-pub(crate) const SECOND_FORMAT: u64 = 2;
-/// The third, which has names of the league and its rounds, short names of the teams, free repeats, and teams by
-/// name in rules besides.
-pub(crate) const THIRD_FORMAT: u64 = 3;
 /// The longest distance between two homes.
 pub const MAX_DISTANCE: u64 = 1_000_000;
 /// The most rounds in a row that a league may allow at home, or away.
@@ -28,6 +21,6 @@ pub const MAX_SHORT_NAME: usize = 6;
 /// The most bytes of what a round is called.
 pub const MAX_ROUND_TEXT: usize = 20;
 /// How many rounds in a row at home, or away, a league allows that does not say.
-pub(crate) const DEFAULT_AT_MOST: u8 = 3;
+pub const DEFAULT_AT_MOST: u8 = 3;
 /// The hard weight of a league that does not say.
-pub(crate) const DEFAULT_HARD_WEIGHT: u32 = 100;
+pub const DEFAULT_HARD_WEIGHT: u32 = 100;

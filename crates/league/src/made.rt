@@ -5,8 +5,7 @@ ghost use Rattle.league.specs.Reading.{Gives};
 ghost use Rattle.league.specs.Checks.{is_team_count};
 ghost use Rattle.league.specs.League.{IsLeague};
 ghost use Rattle.league.specs.Made.{apart, made_names, made_row, made_rows, made, circular_of, constant_of};
-ghost use Rattle.league.specs.Views.{texts};
-ghost use Rattle.league.specs.within.Views.{rows};
+ghost use Rattle.league.specs.Views.{texts, rows};
 
 use crate::checks::is_team_count;
 use crate::fault::LeagueFault;

@@ -1,7 +1,7 @@
 //! The rules that a league states. The names of the classes are those of RobinX (Van Bulck, Goossens, Schönberger,
 //! Guajardo 2020); what each means, and how its breaches are counted, is this project's own definition.
 
-ghost use Rattle.std.specs.Prelude.{◌≡◌, ◌<◌, ◌≤◌, ◌↔◌, [], Some, length, slice_get, IsTrue, IfOk};
+ghost use Rattle.std.specs.Prelude.{◌≡◌, ◌<◌, ◌≤◌, ◌↔◌, [], Some, length, slice_get, IsTrue, IfOk, OnErr};
 ghost use Rattle.league.specs.Games.{IsGameFor, IsGameList, with_game};
 ghost use Rattle.league.specs.Limits.{max_teams, max_games};
 
@@ -159,7 +159,8 @@ impl Eq for GameList {
 }
 
 impl GameList {
-    pub(crate) fn new(alloc: Global) -> GameList
+    /// No game. Takes no memory.
+    pub fn new(alloc: Global) -> GameList
         ensures { result ≡ [] }
     {
         GameList {
@@ -167,11 +168,12 @@ impl GameList {
         }
     }
 
-    /// Adds a game, unless it is there.
-    pub(crate) fn add(&mut self, game: Pairing) -> Result<(), AllocError>
+    /// Adds a game, unless it is there. If there is no memory, the list stays.
+    pub fn add(&mut self, game: Pairing) -> Result<(), AllocError>
         requires { IsGameFor max_teams game }
         ensures value { IfOk result (λ _. self.new ≡ with_game self.old game) }
         ensures most { IfOk result (λ _. length self.new ≤ max_games) }
+        ensures err { OnErr result (self.new ≡ self.old) }
     {
         if !self.games.contains(&game) {
             self.games.push(game)?;

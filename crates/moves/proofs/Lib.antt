@@ -2,4 +2,3 @@ pub mod ejection
 pub mod move_laws
 pub mod Sets
 pub mod ForCallers
-mod Worked

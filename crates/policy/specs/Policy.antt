@@ -11,8 +11,8 @@ use Rattle.policy.specs.declared.plan.Reach.TheVariants.{Untried}
 use Rattle.policy.specs.declared.waves.Aim.{Aim}
 use Rattle.policy.specs.declared.waves.Aim.TheVariants.{Anew, GoOn, Repair}
 use Rattle.policy.specs.declared.waves.Facts.{Facts}
-use Rattle.policy.specs.declared.waves.Source.{Source}
-use Rattle.policy.specs.declared.waves.Source.TheVariants.{Start, Own, Copies}
+use Rattle.policy.specs.declared.waves.LegSource.{LegSource}
+use Rattle.policy.specs.declared.waves.LegSource.TheVariants.{Start, Own, Copies}
 use Rattle.policy.specs.declared.waves.Wave.{Wave}
 
 pub record PolicyData : Type 0 where
@@ -69,7 +69,7 @@ field_after field None = field
 field_after field (Some w) = w.keep
 
 -- Chains begin where there are some, and of those that go on each by itself the better half stays.
-abbrev pub GoesOn : ℕ → Source → ℕ → ℕ → Type 0
+abbrev pub GoesOn : ℕ → LegSource → ℕ → ℕ → Type 0
 GoesOn field Start bouts keep = Unit {0}
 GoesOn field Own bouts keep = (bouts ≡ field) × (keep ≡ (bouts + 1) / 2)
 GoesOn field Copies bouts keep = (1 ≤ field) × (keep ≡ 1)

@@ -9,7 +9,7 @@ use Rattle.policy.specs.declared.plan.Bouts.TheVariants.{FirstHalf, Tries, Level
 use Rattle.policy.specs.declared.plan.Plan.{Plan}
 use Rattle.policy.specs.declared.plan.Reach.{Reach}
 use Rattle.policy.specs.declared.plan.Reach.TheVariants.{Untried, Low, Near, Wide}
-use Rattle.policy.specs.declared.waves.Source.TheVariants.{Start, Own, Copies as OfFirst}
+use Rattle.policy.specs.declared.waves.LegSource.TheVariants.{Start, Own, Copies as OfFirst}
 use Rattle.policy.specs.declared.waves.Wave.{Wave}
 use Rattle.policy.specs.FirstHalf.{count_in}
 use Rattle.policy.specs.Plan.{heating_of}

@@ -12,4 +12,4 @@ mod plan;
 mod waves;
 
 pub use legs::{Course, Leg, LegEnd, MoveSet, WeightCourse};
-pub use waves::{Aim, Facts, MAX_EFFORT, Policy, Source, Wave};
+pub use waves::{Aim, Facts, LegSource, MAX_EFFORT, Policy, Wave};

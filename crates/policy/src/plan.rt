@@ -10,7 +10,7 @@ use crate::numbers::{
     AFTER_FEW, AFTER_MORE, COPIES, Cycles, FEW_TEAMS, HOT_SECOND_HALF, Heating, LEAST_TRIES, LOW,
     NEAR, RULED, RULED_FIRST, SECOND_HALF, SEEKING, TRY_STEPS, UNIT, WIDE,
 };
-use crate::waves::{Aim, Facts, Source, Wave};
+use crate::waves::{Aim, Facts, LegSource, Wave};
 
 /// The bouts of a wave.
 #[derive(Clone, Copy)]
@@ -158,7 +158,7 @@ impl Plan {
         self.level_steps = rest / (levels + 2);
         self.begin(Bouts::FirstHalf(first_half));
         Wave {
-            source: Source::Start,
+            source: LegSource::Start,
             bouts,
             keep,
         }
@@ -183,7 +183,7 @@ impl Plan {
             bouts,
         }));
         Wave {
-            source: Source::Start,
+            source: LegSource::Start,
             bouts,
             keep: 1,
         }
@@ -222,7 +222,7 @@ impl Plan {
             bouts: field,
         }));
         Wave {
-            source: Source::Own,
+            source: LegSource::Own,
             bouts: field,
             keep: field.div_ceil(2),
         }
@@ -246,7 +246,7 @@ impl Plan {
             Bouts::Copies(shares)
         });
         Wave {
-            source: Source::Copies,
+            source: LegSource::Copies,
             bouts: COPIES,
             keep: 1,
         }

@@ -31,7 +31,7 @@ pub enum Aim {
 
 /// Where the chains of a wave begin.
 #[derive(Clone, Copy, Debug, PartialEq, Eq)]
-pub enum Source {
+pub enum LegSource {
     /// At the league's start.
     Start,
     /// Each bout goes on with the field's chain of its place, from the chain's best version.
@@ -43,7 +43,7 @@ pub enum Source {
 /// Bouts that don't depend on each other. A bout is what one chain does: up to two legs in a row.
 #[derive(Clone, Copy, Debug, PartialEq, Eq)]
 pub struct Wave {
-    pub source: Source,
+    pub source: LegSource,
     pub bouts: u32,
     /// How many of its chains go on, the best ones. They are the field, the best one first.
     pub keep: u32,

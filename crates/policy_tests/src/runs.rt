@@ -253,7 +253,7 @@ fn check_walk(rt: &impl Abort, walk: Walk)
 
 #[test]
 fn whole_efforts_are_taken(rt: HostRuntime) {
-    for teams in 4..41 {
+    for teams in [4, 7, 10, 12, 13, 14, 20, 31, 40] {
         for effort in EFFORTS {
             for kind in KINDS {
                 check_walk(&rt, walk((teams, effort, kind, false)));
@@ -275,9 +275,7 @@ fn whole_efforts_are_taken_from_starts_that_break_rules(rt: HostRuntime) {
 
 #[test]
 fn the_most_effort_is_taken(rt: HostRuntime) {
-    for teams in [12, 40] {
-        check_walk(&rt, walk((teams, MAX_EFFORT, Kind::Search, false)));
-    }
+    check_walk(&rt, walk((40, MAX_EFFORT, Kind::Search, false)));
 }
 
 #[test]

@@ -3,7 +3,7 @@
 ghost use Rattle.std.specs.Prelude.{◌≡◌, ◌+◌, ◌≤◌};
 ghost use Rattle.policy.specs.Limits.{max_effort};
 
-use policy::{Course, Facts, Leg, LegEnd, MoveSet, Policy, Source, Wave};
+use policy::{Course, Facts, Leg, LegEnd, LegSource, MoveSet, Policy, Wave};
 
 /// More waves than any policy has.
 const MANY_WAVES: u32 = 100;
@@ -147,9 +147,9 @@ impl Walker {
         self.wave = number;
         let count = u64::from(number) + 1;
         let source = match wave.source {
-            Source::Start => 0,
-            Source::Own => 1,
-            Source::Copies => 2,
+            LegSource::Start => 0,
+            LegSource::Own => 1,
+            LegSource::Copies => 2,
         };
         let has = 100 * u64::from(wave.bouts) + 10 * u64::from(wave.keep) + source;
         self.totals.waves = number.saturating_add(1);

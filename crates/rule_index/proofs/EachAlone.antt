@@ -10,8 +10,8 @@ use Rattle.league.specs.declared.rule.Rule.{Rule}
 use Rattle.league.specs.declared.rule.RuleBody.{RuleBody}
 use Rattle.league.specs.declared.rule.RuleBody.TheVariants.{Ca1, Ca2, Ca3, Ca4, Ga1, Br1, Br2, Se1, Fa2}
 use Rattle.league.proofs.ForCallers.{any_below_from_none, any_below_same, has_beyond}
-use Rattle.robinx.specs.LooksPast.{has_team_outside, has_game_of, takes_all_or_none, looks_past}
-use Rattle.robinx.specs.Touches.{has_touched_team, looks_at_round}
+use Rattle.rules.specs.LooksPast.{has_team_outside, has_game_of, takes_all_or_none, looks_past}
+use Rattle.rules.specs.Touches.{has_touched_team, looks_at_round}
 use Rattle.rule_index.specs.Alterable.{is_alterable, is_alterable_at, passes_at}
 use Rattle.rule_index.specs.Index.{alone, looks_at_games_of, has_opponent, has_stranger, looks_in_round}
 use Rattle.rule_index.proofs.Members.{IsFoundByOne, by_one, alone_only}

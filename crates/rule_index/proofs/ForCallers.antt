@@ -8,11 +8,11 @@ use Rattle.league.specs.RuleLimits.{IsBodyFor}
 use Rattle.league.specs.declared.rule.Rule.{Rule}
 use Rattle.league.specs.declared.rule.RuleBody.{RuleBody}
 use Rattle.fixtures.specs.Games.{Games, IsDoubleRoundRobin}
-use Rattle.robinx.specs.Laws.{SidesAreMain}
-use Rattle.robinx.specs.LooksPast.{looks_past}
-use Rattle.robinx.specs.Parts.{changing_terms, tells_apart, can_alter, deviation_part}
-use Rattle.robinx.specs.Touches.{looks_at_round}
-use Rattle.robinx.proofs.ForCallers.{looked_past_part}
+use Rattle.rules.specs.Laws.{SidesAreMain}
+use Rattle.rules.specs.LooksPast.{looks_past}
+use Rattle.rules.specs.Parts.{changing_terms, tells_apart, can_alter, deviation_part}
+use Rattle.rules.specs.Touches.{looks_at_round}
+use Rattle.rules.proofs.ForCallers.{looked_past_part}
 use Rattle.rule_index.specs.Alterable.{is_alterable, is_alterable_at, passes_at}
 
 pub unalterable_part : (g : Games) (main rounds sides : ℕ) (body : RuleBody) → IsDoubleRoundRobin g → IsBodyFor g.teams body →

@@ -9,8 +9,8 @@ use Rattle.league.specs.declared.rule.Pairing.{Pairing}
 use Rattle.league.specs.declared.rule.RuleBody.{RuleBody}
 use Rattle.league.specs.declared.rule.RuleBody.TheVariants.{Ca1, Ca2, Ca3, Ca4, Ga1, Br1, Br2, Se1, Fa2}
 use Rattle.league.proofs.ForCallers.{any_below_found}
-use Rattle.robinx.specs.LooksPast.{has_game_of}
-use Rattle.robinx.specs.Touches.{has_touched_team, has_touched_slot, has_touched_round, has_touched_until, or_before, looks_at_round}
+use Rattle.rules.specs.LooksPast.{has_game_of}
+use Rattle.rules.specs.Touches.{has_touched_team, has_touched_slot, has_touched_round, has_touched_until, or_before, looks_at_round}
 use Rattle.rule_index.specs.Index.{alone}
 use Rattle.rule_index.proofs.Members.{any_below_one, any_below_grows, in_alone, IsFoundByOne}
 

@@ -4,8 +4,8 @@ use Rattle.std.specs.Option.{option_map_or}
 use Rattle.league.specs.Sets.{has}
 use Rattle.league.specs.declared.rule.Rule.{Rule}
 use Rattle.league.specs.declared.rule.RuleBody.{RuleBody}
-use Rattle.robinx.specs.LooksPast.{looks_past}
-use Rattle.robinx.specs.Touches.{looks_at_round}
+use Rattle.rules.specs.LooksPast.{looks_past}
+use Rattle.rules.specs.Touches.{looks_at_round}
 
 -- whether the rule doesn't look past the main teams, and looks at one of the rounds
 unfoldable pub is_alterable : ℕ → ℕ → RuleBody → Bool

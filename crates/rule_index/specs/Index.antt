@@ -6,8 +6,8 @@ use Rattle.league.specs.Sets.{has, with_number}
 use Rattle.league.specs.declared.rule.Rule.{Rule}
 use Rattle.league.specs.declared.rule.RuleBody.{RuleBody}
 use Rattle.league.specs.declared.rule.RuleBody.TheVariants.{Ca1, Ca2, Ca3, Ca4, Ga1, Br1, Br2, Se1, Fa2}
-use Rattle.robinx.specs.LooksPast.{looks_past}
-use Rattle.robinx.specs.Touches.{looks_at_round}
+use Rattle.rules.specs.LooksPast.{looks_past}
+use Rattle.rules.specs.Touches.{looks_at_round}
 use Rattle.rule_index.specs.declared.rows.TeamRules.{TeamRules}
 use Rattle.rule_index.specs.Alterable.{passes_at}
 

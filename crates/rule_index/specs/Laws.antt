@@ -3,8 +3,8 @@ use Rattle.std.specs.Prelude.{◌≡◌, ℕ, false, List, Some, slice_get}
 use Rattle.league.specs.RuleLimits.{IsBodyFor}
 use Rattle.league.specs.declared.rule.Rule.{Rule}
 use Rattle.fixtures.specs.Games.{Games, IsDoubleRoundRobin}
-use Rattle.robinx.specs.Laws.{SidesAreMain}
-use Rattle.robinx.specs.Parts.{deviation_part}
+use Rattle.rules.specs.Laws.{SidesAreMain}
+use Rattle.rules.specs.Parts.{deviation_part}
 use Rattle.rule_index.specs.Alterable.{is_alterable_at}
 
 -- a change can alter nothing of the deviation from a rule that isn't alterable

@@ -46,7 +46,7 @@ impl RuleIndex {
     }
 
     /// The rules whose deviation a change around the main teams in the rounds can alter: those that don't look past these teams
-    /// ([`looks_past`](robinx::looks_past)) and look at one of the rounds ([`looks_at_round`](robinx::looks_at_round)). Any other rule
+    /// ([`looks_past`](rules::looks_past)) and look at one of the rounds ([`looks_at_round`](rules::looks_at_round)). Any other rule
     /// keeps its deviation ([`nothing_else_alters`](crate::nothing_else_alters)).
     pub fn alterable(&self, main: Touched) -> RuleSet
         ensures members { (rules : List LeagueRule) → IsIndexOf rules self.now →

@@ -7,7 +7,7 @@ ghost use Rattle.rule_index.specs.Index.{opponents_of, has_opponent, has_strange
 
 use league::limits::{MAX_ROUNDS, MAX_TEAMS};
 use league::{League, Rule, RuleBody, RuleSet, SlotSet, TeamSet};
-use robinx::{looks_at_round, looks_past};
+use rules::{looks_at_round, looks_past};
 
 /// A row for each of the most teams, whatever a league's size.
 pub(crate) const TEAMS: usize = MAX_TEAMS as usize;

@@ -1,8 +1,6 @@
 //! The tests by subject, and what they share.
 
-mod allocations;
 mod applying;
-mod changed_games;
 mod checking;
 mod checks;
 mod costs;
@@ -10,6 +8,7 @@ mod deviations;
 mod drafts;
 mod ejection_chains;
 mod exchanges;
+mod fault_texts;
 mod halves;
 mod home_games;
 mod moved_games;
@@ -18,8 +17,6 @@ mod parts;
 mod rule_leagues;
 mod rule_parts;
 mod rules_reached;
-mod same_schedules;
 mod sheets;
 mod small_leagues;
 mod starts;
-mod values;

@@ -10,7 +10,7 @@ use Rattle.fixtures.specs.Games.{Games, games, round_count, round_of}
 use Rattle.fixtures.specs.GameList.{AreGamesOf}
 use Rattle.fixtures.specs.Draft.{is_game_in_range, IsGame}
 use Rattle.fixtures.proofs.ForCallers.{game_passed, game_passes, games_ext, round_of_games}
-use Rattle.streams.specs.Pieces.{pieces_below}
+use Rattle.byte_streams.specs.Pieces.{pieces_below}
 use Rattle.schedule_texts.specs.declared.schedule_text.ScheduleLine.{ScheduleLine}
 use Rattle.schedule_texts.specs.declared.schedule_text.ScheduleLine.TheVariants.{Other, Bad, Round}
 use Rattle.schedule_texts.specs.declared.schedule_text.WrittenGame.{WrittenGame}

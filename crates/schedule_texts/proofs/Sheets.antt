@@ -3,7 +3,7 @@ use Rattle.std.proofs.Common.{◌≡◌, ℕ, zero, suc, ◌+◌, true, false, L
 use Rattle.std.proofs.Common.{replicate, add-one, arith}
 use Rattle.std.specs.Str.Lines.{lines}
 use Rattle.std.proofs.lemmas.Bool.{or_parts}
-use Rattle.texts.specs.Words.{words_of}
+use Rattle.text_lines.specs.Words.{words_of}
 use Rattle.schedule_texts.specs.declared.last_sheet.LastSheet.{LastSheet}
 use Rattle.schedule_texts.specs.Faults.{bad_lines}
 use Rattle.schedule_texts.specs.LastSheet.{begins_sheet, has_round_line, has_sheet_line, last_sheet}

@@ -2,7 +2,7 @@
 -- from 1 in texts.
 use Rattle.std.specs.Prelude.{ℕ, ◌+◌, ◌==◌, Bool, ◌&&◌, ◌||◌, List, [], ◌∷◌, ◌++◌, codes, decimal, if◌then◌else◌, count_by}
 use Rattle.std.specs.List.{concat}
-use Rattle.streams.specs.Pieces.{pieces_below}
+use Rattle.byte_streams.specs.Pieces.{pieces_below}
 use Rattle.fixtures.specs.declared.game.Game.{Game}
 use Rattle.fixtures.specs.Draft.{is_game_in_range}
 use Rattle.fixtures.specs.Games.{round_count}

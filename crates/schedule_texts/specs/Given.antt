@@ -3,7 +3,7 @@ use Rattle.std.specs.Prelude.{◌≡◌, ℕ, false, List, map, Option, Some, No
 use Rattle.fixtures.specs.declared.game.Game.{Game}
 use Rattle.fixtures.specs.Games.{Games}
 use Rattle.fixtures.specs.GameList.{AreGamesOf}
-use Rattle.texts.specs.Command.{numbered_game}
+use Rattle.text_lines.specs.Number.{numbered_game}
 use Rattle.schedule_texts.specs.declared.schedule_text.WrittenGame.{WrittenGame}
 use Rattle.schedule_texts.specs.LastSheet.{last_sheet}
 use Rattle.schedule_texts.specs.ScheduleText.{written_games, has_bad_line}

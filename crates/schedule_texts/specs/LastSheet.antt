@@ -2,7 +2,7 @@
 use Rattle.std.specs.Prelude.{ℕ, Bool, true, false, ◌||◌, List, [], ◌∷◌, codes, if◌then◌else◌}
 use Rattle.std.specs.Str.{bytes_eq}
 use Rattle.std.specs.Str.Lines.{lines}
-use Rattle.texts.specs.Words.{words_of}
+use Rattle.text_lines.specs.Words.{words_of}
 use Rattle.schedule_texts.specs.declared.schedule_text.ScheduleLine.{ScheduleLine}
 use Rattle.schedule_texts.specs.declared.schedule_text.ScheduleLine.TheVariants.{Other, Bad, Round}
 use Rattle.schedule_texts.specs.ScheduleText.{line_of}

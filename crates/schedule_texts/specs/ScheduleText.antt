@@ -3,8 +3,8 @@ use Rattle.std.specs.Prelude.{ℕ, ◌-◌, ◌==◌, Bool, true, false, ◌&&�
 use Rattle.std.specs.Prelude.{Option, Some, None, if◌then◌else◌}
 use Rattle.std.specs.Option.{is_some}
 use Rattle.std.specs.Str.{bytes_eq}
-use Rattle.texts.specs.Number.{after_dash, before_dash, number_of}
-use Rattle.texts.specs.Words.{words_of}
+use Rattle.text_lines.specs.Number.{after_dash, before_dash, number_of}
+use Rattle.text_lines.specs.Words.{words_of}
 use Rattle.schedule_texts.specs.declared.schedule_text.ScheduleLine.{ScheduleLine}
 use Rattle.schedule_texts.specs.declared.schedule_text.ScheduleLine.TheVariants.{Other, Bad, Round}
 use Rattle.schedule_texts.specs.declared.schedule_text.WrittenGame.{WrittenGame}

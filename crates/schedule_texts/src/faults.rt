@@ -3,21 +3,21 @@
 ghost use Rattle.std.specs.Prelude.{◌≡◌, ◌≤◌};
 ghost use Rattle.std.specs.Str.Lines.{lines};
 ghost use Rattle.league.specs.Limits.{max_teams};
-ghost use Rattle.streams.specs.Writing.{Writes};
+ghost use Rattle.byte_streams.specs.Writing.{Writes};
 ghost use Rattle.schedule_texts.specs.Faults.{bad_line, bad_lines, faults_text, game_faults};
 ghost use Rattle.schedule_texts.specs.within.Faults.{count_line, count_lines};
 ghost use Rattle.schedule_texts.specs.Faults.{no_game_line, no_game_lines, pair_line, team_line, times_words};
 ghost use Rattle.schedule_texts.specs.Given.{given_games};
 ghost use Rattle.schedule_texts.specs.LastSheet.{last_sheet};
 ghost use Rattle.schedule_texts.specs.ScheduleText.{written_games};
-ghost use Rattle.streams.specs.Pieces.{pieces_below};
+ghost use Rattle.byte_streams.specs.Pieces.{pieces_below};
 
 use crate::counted::{Counted, counts_of};
 use crate::last_sheet::LastSheet;
 use crate::schedule_text::{ScheduleLine, WrittenGame};
+use byte_streams::{BufferedSink, Sink, WriteFault};
 use fixtures::Game;
-use streams::{BufferedSink, Sink, WriteFault};
-use texts::{Piece, next_line, write_pieces};
+use text_lines::{Piece, next_line, write_pieces};
 
 /// Writes a line for each fault of the last sheet of a text and of the games that it gives to this number of teams.
 pub(crate) fn write_faults<W: Sink>(

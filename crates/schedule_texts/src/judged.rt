@@ -3,7 +3,7 @@
 ghost use Rattle.std.specs.Prelude.{◌≡◌, IfOk, option_map};
 ghost use Rattle.std.specs.Str.Lines.{lines};
 ghost use Rattle.league.specs.League.{teams};
-ghost use Rattle.streams.specs.Writing.{Writes};
+ghost use Rattle.byte_streams.specs.Writing.{Writes};
 ghost use Rattle.schedule_texts.specs.Faults.{faults_text};
 ghost use Rattle.schedule_texts.specs.Given.{given_games, IsVerdict};
 ghost use Rattle.schedule_texts.specs.Judged.{IsJudgedBy};
@@ -12,10 +12,10 @@ ghost use Rattle.schedule_texts.specs.within.LastSheet.{IsLastSheet};
 use crate::faults::write_faults;
 use crate::last_sheet::LastSheet;
 use crate::schedule_text::{WrittenGame, has_bad_line, placed_games, written_games};
+use byte_streams::{BufferedSink, Sink, WriteFault};
 use fixtures::{FixtureFault, Game, Schedule, from_games};
 use league::League;
 use std::alloc::{AllocError, Global};
-use streams::{BufferedSink, Sink, WriteFault};
 
 /// The games that the last sheet of a text gives for a league, and their schedule if they are a double round robin of its teams.
 #[derive(Drop)]

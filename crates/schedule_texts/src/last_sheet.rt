@@ -1,13 +1,13 @@
 //! The last sheet of a text.
 
 ghost use Rattle.std.specs.Prelude.{◌≡◌};
-ghost use Rattle.texts.specs.Words.{words_of};
+ghost use Rattle.text_lines.specs.Words.{words_of};
 ghost use Rattle.std.specs.Str.Lines.{lines};
 ghost use Rattle.schedule_texts.specs.LastSheet.{begins_sheet, has_round_line, is_of_round, last_sheet};
 ghost use Rattle.schedule_texts.specs.within.LastSheet.{IsLastSheet};
 
 use crate::schedule_text::ScheduleLine;
-use texts::{next_line, next_word};
+use text_lines::{next_line, next_word};
 
 /// The text behind its last line whose first word is `league`, or all of it if there is none.
 #[derive(Clone, Copy)]

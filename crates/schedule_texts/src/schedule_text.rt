@@ -2,14 +2,14 @@
 
 ghost use Rattle.std.specs.Prelude.{◌≡◌, ◌++◌, map, IfOk, OnOk};
 ghost use Rattle.std.specs.Str.Lines.{lines};
-ghost use Rattle.texts.specs.Words.{words_of};
+ghost use Rattle.text_lines.specs.Words.{words_of};
 ghost use Rattle.schedule_texts.specs.Given.{placed};
 ghost use Rattle.schedule_texts.specs.ScheduleText.{are_games, game_of_numbers, game_of_word, games_of_words, has_bad_line};
 ghost use Rattle.schedule_texts.specs.ScheduleText.{line_of, round_line, round_of_word, written_games, games_of_line, numbered_line};
 
 use fixtures::Game;
 use std::alloc::{AllocError, Global};
-use texts::{index, next_line, next_word, number, numbers_at_dash};
+use text_lines::{index, next_line, next_word, number, numbers_at_dash};
 
 /// A game as it is written: teams and rounds are numbered from 1, and may be any numbers.
 #[derive(Clone, Copy, Debug, PartialEq, Eq)]

@@ -17,12 +17,12 @@ use Rattle.shared_board.specs.Held.{under}
 use Rattle.shared_board.specs.Seats.{BoardId, SeatValue, Absorbed, ClosedBy}
 use Rattle.shared_board.proofs.ForCallers.{under_append, under_both}
 use Rattle.search.specs.declared.runs.threads.Ended.{Ended}
-use Rattle.search.specs.declared.runs.threads.Given.{Given}
+use Rattle.search.specs.declared.runs.threads.WorkerTask.{WorkerTask}
 use Rattle.search.specs.declared.runs.threads.WorkerInput.{WorkerInput}
-use Rattle.search.specs.declared.gates.Progress.{Progress}
+use Rattle.draws.specs.declared.gates.Progress.{Progress}
 use Rattle.search.specs.declared.runs.Outcome.{Outcome}
 use Rattle.search.specs.declared.runs.RunRefused.{RunRefused}
-use Rattle.search.specs.declared.runs.SearchPlan.{SearchPlan}
+use Rattle.choices.specs.declared.search_plan.SearchPlan.{SearchPlan}
 use Rattle.search.specs.declared.workers.Report.{Report}
 use Rattle.search.specs.within.RunParts.{AreStarted, IsBack, IsHandle, IsOfInput, IsSized, handle_input, handle_number, input_copy, input_number}
 use Rattle.search.specs.within.RunParts.{input_worker}
@@ -34,7 +34,7 @@ use Rattle.search.proofs.SeatLaws.{under_known}
 -- What was taken in of the threads: their numbers, and their reports, each with as many accepted proposals as there are
 -- entries under its number
 pub record IsGathered {G : Type 0} (heard : ℕ → ℕ → Reply → Type 0) (reported : ℕ → Progress → Type 0) (league : LeagueData)
-    (plan : SearchPlan) (table : BoardId) (was seat : SeatValue) (done : List (PromisedHandle Ended (Given G)))
+    (plan : SearchPlan) (table : BoardId) (was seat : SeatValue) (done : List (PromisedHandle Ended (WorkerTask G)))
     (reports : List Report) : Type 0 where
   pub table_is : seat.table ≡ table
   pub setting : seat.setting ≡ was.setting
@@ -100,7 +100,7 @@ of_workers heard reported league plan size (j ∷ js) (r ∷ rs) are sized =
 -- one more thread's seat is taken in
 pub gathered_more : {G : Type 0} (hears : G → ℕ → ℕ → Reply → Type 0) (was_reported : G → ℕ → Progress → Type 0) (gate : G)
     (league : LeagueData) (plan : SearchPlan) (table : BoardId) (was a other b : SeatValue)
-    (done : List (PromisedHandle Ended (Given G))) (h : PromisedHandle Ended (Given G)) (reports reports' : List Report)
+    (done : List (PromisedHandle Ended (WorkerTask G))) (h : PromisedHandle Ended (WorkerTask G)) (reports reports' : List Report)
     (report : Report) →
     IsGathered (hears gate) (was_reported gate) league plan table was a done reports → IsHandle gate league plan table h →
     IsBack (hears h.promise.gate.value) (was_reported h.promise.gate.value) h.promise.league.value h.promise.plan (handle_input h) report other →
@@ -150,13 +150,13 @@ gathered_more {G} hears was_reported gate league plan table was a other b done h
     }
 
 -- the numbers of threads are those of their inputs
-pub numbers_of : {G : Type 0} (done : List (PromisedHandle Ended (Given G))) → map input_number (map handle_input done) ≡ map handle_number done
+pub numbers_of : {G : Type 0} (done : List (PromisedHandle Ended (WorkerTask G))) → map input_number (map handle_input done) ≡ map handle_number done
 numbers_of [] = refl
 numbers_of (h ∷ hs) = ap (λ (ns : List ℕ). handle_number h ∷ ns) (numbers_of hs)
 
 -- if all threads were started and the board is whole, the reports are credited with its entries
 pub credits_of : {G : Type 0} (gate : G) (league : LeagueData) (plan : SearchPlan) (table : BoardId) (all : Bool) (inputs : Vec WorkerInput Global)
-    (handles : Vec (PromisedHandle Ended (Given G)) Global) (reports : List Report) (seat : SeatValue) (closed : Closed) →
+    (handles : Vec (PromisedHandle Ended (WorkerTask G)) Global) (reports : List Report) (seat : SeatValue) (closed : Closed) →
     AreStarted gate league plan table inputs all handles → all ≡ true → IsStrictlyIncreasing (map input_number inputs.items) →
     AreCredited (map handle_number handles.items) reports seat.seen → ClosedBy seat closed →
     closed.whole ≡ true → Credits reports closed.board.history

@@ -1,24 +1,11 @@
 -- The steps that a worker reported, and those that it is still to report.
-use Rattle.std.proofs.Common.{◌≡◌, ◌⊎◌, ℕ, ◌+◌, [], ◌∷◌, ◌++◌, inl, inr, refl, sym, ap, ◌∙◌, subst, arith}
-use Rattle.std.proofs.lemmas.List.Elements.{All-nil, All-push}
-use Rattle.std.proofs.lemmas.List.Sums.{sum_by_push}
-use Rattle.search.specs.declared.gates.Progress.{Progress}
+use Rattle.std.proofs.Common.{◌≡◌, ◌⊎◌, ℕ, ◌+◌, inl, inr, refl, sym, ap, ◌∙◌, subst, arith}
+use Rattle.draws.specs.declared.gates.Progress.{Progress}
+use Rattle.draws.specs.Reported.{AreReported}
+use Rattle.draws.proofs.ForCallers.{reported_none, reported_more}
 use Rattle.search.specs.declared.workers.steps.StepResult.{StepResult}
 use Rattle.search.specs.declared.workers.steps.StepResult.TheVariants.{Nothing, Accepted, Refused, Full}
-use Rattle.search.specs.Heard.{AreReported, steps_of}
 use Rattle.search.specs.within.Steps.{IsReported, IsReportedBefore, progress_with}
-
-pub reported_none : (reported : Progress → Type 0) → AreReported reported 0
-reported_none reported = record { parts = []; are = All-nil reported; sum = refl }
-
--- one more is reported
-pub reported_more : (reported : Progress → Type 0) (n m : ℕ) (p : Progress) → AreReported reported n → reported p → n + p.steps ≡ m → AreReported reported m
-reported_more reported n m p was one is =
-    record {
-      parts = was.parts ++ p ∷ [];
-      are = All-push reported was.parts p was.are one;
-      sum = omega (arith, sum_by_push steps_of was.parts p, was.sum, is);
-    }
 
 -- so many steps were reported, but for those that the progress has
 pub record ReportsBut (reported : Progress → Type 0) (steps : ℕ) (p : Progress) : Type 0 where

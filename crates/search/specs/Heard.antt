@@ -1,9 +1,10 @@
 -- What a gate hears of a worker: the replies to its proposals, and the steps that are reported to it.
-use Rattle.std.specs.Prelude.{◌≡◌, ◌⊎◌, ℕ, ◌+◌, ◌≤◌, List, [], ◌∷◌, length, sum_by, All}
+use Rattle.std.specs.Prelude.{◌≡◌, ◌⊎◌, ℕ, ◌+◌, ◌≤◌, List, [], ◌∷◌, length, sum_by}
 use Rattle.fixture_board.specs.declared.reply.Reply.{Reply}
 use Rattle.fixture_board.specs.declared.reply.Reply.TheVariants.{Done, No}
 use Rattle.fixture_board.specs.declared.reply.Why.TheVariants.{Full}
-use Rattle.search.specs.declared.gates.Progress.{Progress}
+use Rattle.draws.specs.declared.gates.Progress.{Progress}
+use Rattle.draws.specs.Reported.{AreReported}
 use Rattle.search.specs.declared.workers.Report.{Report}
 use Rattle.search.specs.Doors.{done_count}
 
@@ -18,15 +19,6 @@ pub record IsHeard (heard : ℕ → Reply → Type 0) (report : Report) : Type 0
   pub are : AreHeard heard 0 replies
   pub made : length replies ≡ report.made
   pub accepted : sum_by done_count replies ≡ report.accepted
-
-abbrev pub steps_of : Progress → ℕ
-steps_of p = p.steps
-
--- so many steps were reported, in parts
-pub record AreReported (reported : Progress → Type 0) (steps : ℕ) : Type 0 where
-  pub parts : List Progress
-  pub are : All reported parts
-  pub sum : sum_by steps_of parts ≡ steps
 
 -- the reply says that the history has no room
 abbrev pub IsFull : Reply → Type 0

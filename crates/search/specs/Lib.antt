@@ -1,4 +1,3 @@
-pub mod Draws
 pub mod Doors
 pub mod Reports
 pub mod Heard

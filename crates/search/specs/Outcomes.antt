@@ -6,7 +6,7 @@ use Rattle.fixture_board.specs.History.{IsLegal}
 use Rattle.fixture_board.specs.Record.{Book}
 use Rattle.shared_board.specs.Held.{under}
 use Rattle.search.specs.declared.workers.Report.{Report}
-use Rattle.search.specs.declared.runs.SearchPlan.{SearchPlan}
+use Rattle.choices.specs.declared.search_plan.SearchPlan.{SearchPlan}
 use Rattle.search.specs.declared.runs.Outcome.{Outcome}
 use Rattle.search.specs.declared.runs.RunFault.{RunFault}
 use Rattle.search.specs.declared.runs.RunFault.TheVariants.{Workers, Spawn, Receipts, Memory}

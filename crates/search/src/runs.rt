@@ -15,8 +15,9 @@ mod buffers;
 mod threads;
 
 use crate::workers::{Context, Report, Scoring};
-use crate::{Gate, NoGate, RunContext};
 use buffers::RunBuffers;
+use choices::{MAX_WORKERS, SearchPlan};
+use draws::{Gate, NoGate, RunContext};
 use fixture_board::Board;
 use league::League;
 use shared_board::{Closed, Seat, Shared};
@@ -26,22 +27,6 @@ use std::sync::Wait;
 use std::thread::Threads;
 use thiserror::Error;
 use threads::{Handle, Run, accepted_in, gather, launch, seat_all};
-
-/// The most workers of a run.
-pub const MAX_WORKERS: u32 = 16;
-
-/// The plan of a run.
-#[derive(Clone, Copy, Debug, PartialEq, Eq)]
-pub struct SearchPlan {
-    /// 1 to 16.
-    pub workers: u32,
-    /// The first state of each worker's generator. The number of the worker chooses its stream.
-    pub seed: u64,
-    /// How many steps each worker takes.
-    pub steps: u32,
-    /// By how much a score may rise at a worker's first step.
-    pub slack: u64,
-}
 
 /// The reports of a run's workers, in their order. Contracts see the list.
 #[derive(Drop)]

@@ -8,8 +8,9 @@ ghost use Rattle.search.specs.within.Steps.{IsReported, IsReportedBefore, IsScor
 
 mod steps;
 
-use crate::{Door, Gate, Progress, draw};
+use crate::Door;
 use costs::Evaluator;
+use draws::{Gate, Progress, draw};
 use fixtures::Schedule;
 use league::League;
 use rand_pcg::Lcg64Xsh32;

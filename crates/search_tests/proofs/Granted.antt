@@ -4,7 +4,7 @@ use Rattle.std.specs.List.{All, sum_by}
 use Rattle.std.proofs.lemmas.List.Elements.{All-cons, All-head, All-nil, All-rest}
 use Rattle.std.proofs.lemmas.List.Sums.{sum_by-cons}
 use Rattle.fixture_board.specs.declared.reply.Reply.{Reply}
-use Rattle.search.specs.declared.gates.Progress.{Progress}
+use Rattle.draws.specs.declared.gates.Progress.{Progress}
 use Rattle.search.specs.declared.workers.Report.{Report}
 use Rattle.search.specs.Doors.{done_count}
 use Rattle.search.specs.Heard.{AreHeard, AreOf, IsOfWorker}

@@ -3,11 +3,11 @@
 mod boards;
 mod checks;
 mod doors;
+mod fault_texts;
 mod first_moves;
 mod granting;
 mod kept_games;
 mod locked;
-mod memory;
 mod own_streams;
 mod phased;
 mod recorder;
@@ -16,4 +16,3 @@ mod runs;
 mod searches;
 mod sizes;
 mod steps;
-mod values;

@@ -15,7 +15,7 @@ use Rattle.fixture_board.specs.Laws.{TellsOf}
 use Rattle.fixture_board.specs.Record.{Book}
 use Rattle.fixture_board.specs.Replies.{entry, next_of}
 use Rattle.shared_board.specs.declared.view.View.{View}
-use Rattle.shared_board.specs.declared.shared.Judged.{Judged}
+use Rattle.shared_board.specs.declared.shared.JudgedAsk.{JudgedAsk}
 use Rattle.shared_board.specs.Setting.{Setting, board_at}
 use Rattle.shared_board.specs.Stage.{away, holds}
 use Rattle.shared_board.specs.within.Stage.{kept}
@@ -34,20 +34,20 @@ use Rattle.shared_board.proofs.Counts.{once_most, once_none, all_held, held_most
 use Rattle.shared_board.proofs.Seating.{longer_cases, begins_longer}
 
 -- what the answer of the board tells
-tells : (s : Setting) (h : List Entry) (number : ℕ) (ask : Ask) (j : Judged) (r : Reply) → IsJudged s h number ask j → j.reply ≡ r
+tells : (s : Setting) (h : List Entry) (number : ℕ) (ask : Ask) (j : JudgedAsk) (r : Reply) → IsJudged s h number ask j → j.reply ≡ r
     → TellsOf s.league h (entry number ask) (next_of s.league s.room h number ask) r
 tells s h number ask j r judged is =
     let P : Reply → Type 0 = λ x. TellsOf s.league h (entry number ask) (next_of s.league s.room h number ask) x in
     subst P (sym judged.reply ∙ is) (reply_tells s.league s.room h number ask)
 
 -- what it granted is one entry more
-pub done_adds : (s : Setting) (h : List Entry) (number : ℕ) (ask : Ask) (j : Judged) (at : ℕ) (cost : Cost) → IsJudged s h number ask j →
+pub done_adds : (s : Setting) (h : List Entry) (number : ℕ) (ask : Ask) (j : JudgedAsk) (at : ℕ) (cost : Cost) → IsJudged s h number ask j →
     j.reply ≡ Done at cost
     → next_of s.league s.room h number ask ≡ h ++ entry number ask ∷ []
 done_adds s h number ask j at cost judged is = (tells s h number ask j (Done at cost) judged is).0
 
 -- and what it refused is none
-pub no_stays : (s : Setting) (h : List Entry) (number : ℕ) (ask : Ask) (j : Judged) (at : ℕ) (why : Why) → IsJudged s h number ask j →
+pub no_stays : (s : Setting) (h : List Entry) (number : ℕ) (ask : Ask) (j : JudgedAsk) (at : ℕ) (why : Why) → IsJudged s h number ask j →
     j.reply ≡ No at why
     → next_of s.league s.room h number ask ≡ h
 no_stays s h number ask j at why judged is = (tells s h number ask j (No at why) judged is).0
@@ -102,24 +102,24 @@ board_out m has =
     (b, has ∙ ap (λ (l : List (ℕ × Option Book)). (0, b) ∷ rest l) (sym has))
 
 -- a turn in which the board was asked, as its steps tell it: before, under the turn, after the board answered, and after
-pub record Asked (me taken told done : Token) (number : ℕ) (ask : Ask) (j : Judged) : Type 0 where
+pub record Asked (me taken told done : Token) (number : ℕ) (ask : Ask) (j : JudgedAsk) : Type 0 where
   pub took : Took me taken
   pub same : told.0 ≡ taken.0
   pub judged : IsJudged taken.0.setting (on_board taken.1) number ask j
   pub left : done ≡ (saw told.0 (next_of told.0.setting.league told.0.setting.room (kept told.0.stage) number ask) away, [])
 
-asked_judged : (me taken told done : Token) (number : ℕ) (ask : Ask) (j : Judged) (a : Asked me taken told done number ask j) →
+asked_judged : (me taken told done : Token) (number : ℕ) (ask : Ask) (j : JudgedAsk) (a : Asked me taken told done number ask j) →
     IsJudged me.0.setting a.took.0 number ask j
 asked_judged me taken told done number ask j a =
     let P : Token → Type 0 = λ m. IsJudged m.0.setting (on_board m.1) number ask j in subst P a.took.2 a.judged
 
-asked_left : (me taken told done : Token) (number : ℕ) (ask : Ask) (j : Judged) (a : Asked me taken told done number ask j)
+asked_left : (me taken told done : Token) (number : ℕ) (ask : Ask) (j : JudgedAsk) (a : Asked me taken told done number ask j)
     → done ≡ (saw me.0 (next_of me.0.setting.league me.0.setting.room a.took.0 number ask) away, [])
 asked_left me taken told done number ask j a =
     let f : View → Token = λ v. (saw v (next_of v.setting.league v.setting.room (kept v.stage) number ask) away, []) in
     a.left ∙ ap f (a.same ∙ ap (λ (m : Token). m.0) a.took.2)
 
-pub seat_after : (me taken told done : Token) (number held seen accepted : ℕ) (ask : Ask) (j : Judged) (r : Reply) →
+pub seat_after : (me taken told done : Token) (number held seen accepted : ℕ) (ask : Ask) (j : JudgedAsk) (r : Reply) →
     IsSeat me number held seen accepted
     → Asked me taken told done number ask j → j.reply ≡ r → IsSeatAfter done number held accepted r
 seat_after me taken told done number held seen accepted ask j (Done at cost) seat a is =
@@ -139,7 +139,7 @@ seat_after me taken told done number held seen accepted ask j (No at why) seat a
     seat_saw me done number held seen accepted g at accepted seat (asked_left me taken told done number ask j a) t.1
     (seat.entries ∙ (sym (accepted_same me.0 h a.took.1) ∙ ap (under me.0.held) (sym t.0)))
 
-pub answered : (table : BoardId) (me taken told done : Token) (number held seen accepted : ℕ) (ask : Ask) (j : Judged) →
+pub answered : (table : BoardId) (me taken told done : Token) (number held seen accepted : ℕ) (ask : Ask) (j : JudgedAsk) →
     Asked me taken told done number ask j
     → IsSeat me number held seen accepted → Answered (seat_value table number me.0) (seat_value table number done.0) ask j.reply
 answered table me taken told done number held seen accepted ask j a seat =

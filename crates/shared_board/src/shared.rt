@@ -132,7 +132,7 @@ pub struct Closed {
 
 /// The reply of the board to a call under the turn.
 #[derive(Clone, Copy)]
-pub(crate) struct Judged {
+pub(crate) struct JudgedAsk {
     reply: Reply,
     version: u64,
     least: u64,

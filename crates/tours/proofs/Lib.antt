@@ -6,4 +6,3 @@ pub mod legs
 pub mod exchanged_legs
 pub mod moved_counts
 pub mod ForCallers
-mod Worked

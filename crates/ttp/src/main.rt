@@ -4,5 +4,5 @@
 use std::process::ExitCode;
 
 fn main(rt: HostRuntime) -> ExitCode {
-    program::run(&rt, &rt.stdin(), rt.stderr())
+    cli::run(&rt, &rt.stdin(), rt.stderr())
 }

@@ -1,16 +1,20 @@
-"""holds each crate to its lines and edits in budget.txt, so that the gate's time grows by decision
+"""holds the house to the lines and edits that docs/gate.md allows, and prints what each crate has
 
 usage: scripts/check budget
 
-A proof costs the gate by its lines and by its edits (docs/gate.md). A crate has one line in budget.txt: its name, the most lines
-of src/, specs/ and proofs/ together, and the most edits. The last line is 'N passed, M failed', which counts crates."""
+A proof costs the gate by its lines, and an edit by a check. Whoever raises a limit says why on that page. The last line is
+'N passed, M failed', which counts the limits."""
+import re
+
 from .. import TOP
 
+LIMIT = re.compile(r"^\| ([a-z -]+) \| ([\d,]+) \|$", re.M)
 
-def budgets():
-    """The most lines and edits of each crate, by its name."""
-    rows = [line.split("#")[0].split() for line in (TOP / "budget.txt").read_text(encoding="utf-8").splitlines()]
-    return {name: (int(lines), int(edits)) for name, lines, edits in filter(None, rows)}
+
+def limits():
+    """The limits of docs/gate.md, by their names there."""
+    page = (TOP / "docs/gate.md").read_text(encoding="utf-8")
+    return {name: int(most.replace(",", "")) for name, most in LIMIT.findall(page)}
 
 
 def lines_of(crate):
@@ -19,20 +23,16 @@ def lines_of(crate):
 
 
 def main():
-    allowed = budgets()
-    crates = {crate.name: crate for crate in (TOP / "crates").iterdir() if (crate / "src").is_dir()}
-    failed = 0
-    for name in sorted(allowed.keys() | crates.keys()):
-        if name not in allowed:
-            problem = "it has no line in budget.txt"
-        elif name not in crates:
-            problem = "budget.txt has a line for it, and there is no such crate"
-        else:
-            found = lines_of(crates[name]), len([*crates[name].glob("must-fail/*.edit")])
-            over = [f"{has} {what}, and its budget is {most}" for has, what, most in zip(found, ("lines", "edits"), allowed[name]) if has > most]
-            problem = "it has " + " and ".join(over) if over else ""
-        if problem:
-            failed += 1
-            print(f"check budget: {name}: {problem}")
-    print(f"{len(allowed.keys() | crates.keys()) - failed} passed, {failed} failed")
-    return bool(failed)
+    allowed = limits()
+    crates = sorted(crate for crate in (TOP / "crates").iterdir() if (crate / "src").is_dir())
+    rows = [(crate.name, lines_of(crate), len([*crate.glob("must-fail/*.edit")])) for crate in crates]
+    print(f"{'crate':20} {'lines':>7} {'edits':>5}")
+    for name, lines, edits in sorted(rows, key=lambda row: -row[1]):
+        print(f"{name:20} {lines:7,} {edits:5}")
+    has = {"lines": sum(row[1] for row in rows), "must-fail edits": sum(row[2] for row in rows)}
+    print(f"{'all':20} {has['lines']:7,} {has['must-fail edits']:5}")
+    over = [name for name, count in has.items() if allowed[name] < count]
+    for name in over:
+        print(f"check budget: {has[name]:,} {name}, and docs/gate.md allows {allowed[name]:,}")
+    print(f"{len(has) - len(over)} passed, {len(over)} failed")
+    return bool(over)

@@ -1,5 +1,5 @@
 #!/usr/bin/env bash
-# holds the README's worked session to that of a test of crates/program_tests, and the examples in Rust to their sources
+# holds the README's worked session to that of a test of crates/cli_tests, and the examples in Rust to their sources
 #
 # usage: scripts/check readme
 #
@@ -26,7 +26,7 @@ constant() {
         named && !inside && (at = index($0, "r#\"")) { inside = 1; print substr($0, at + 3); next }
         inside && /^"#;/ { exit }
         inside
-    ' crates/program_tests/src/tests/session.rt
+    ' crates/cli_tests/src/tests/session.rt
 }
 
 session=$(block 1)

@@ -188,6 +188,9 @@ is_unwritten() { # FILE: status 1 and one line that says so; the text is that of
 follows() { # FILE: the file has what the text ends with
     cmp -s <(tail_of "$made/output") "$1"
 }
+names() { # the files, hidden ones too
+    find "$followed" -mindepth 1 -printf '%f\n' | sort | paste -sd ' '
+}
 followed=$made/followed
 mkdir "$followed"
 six=("$program" improve leagues/circular-6.json --effort 1)
@@ -196,7 +199,7 @@ run 'an improvement with a file and a log' "${six[@]}" -o "$followed/best.txt" -
 judge is_output "$made/plain"
 judge follows "$followed/best.txt"
 judge are_logged "$followed/legs.txt" "$made/plain"
-judge test "$(cd "$followed" && echo *)" = 'best.txt legs.txt'
+judge test "$(names)" = 'best.txt legs.txt'
 run 'an improvement that goes on from its file' "${six[@]}" --from "$followed/best.txt" --output "$followed/best.txt" --seed 2 </dev/null
 judge ends 0
 judge follows "$followed/best.txt"
@@ -222,6 +225,8 @@ for pause in 0 0.2 0.5 1; do
     run "the file of an improvement that was killed after $pause" "$program" report leagues/circular-10.json "$followed/best.txt" </dev/null
     judge is_last 0 "total $(total_of "$followed/best.txt")"
 done
+# a kill may leave what was written then
+rm -f "$followed"/.best.txt.ttp-*
 mkdir "$followed/away"
 ten=("$program" improve leagues/circular-10.json --effort 10)
 "${ten[@]}" >"$made/plain" </dev/null
@@ -245,10 +250,10 @@ too_long() {
 }
 printf 'old\n' >"$followed/old.txt"
 run 'a file that gets too long' too_long
-judge test "$status $(cat "$followed/old.txt") $(find "$followed" -name '*new*')" = '1 old '
+judge test "$status $(cat "$followed/old.txt") $(find "$followed" -name '.old*')" = '1 old '
 run 'a log on a full device' "${six[@]}" --log /dev/full </dev/null
 judge is_unwritten /dev/full
-for file in /dev/full "$followed" "$made/missing/best.txt"; do
+for file in /dev/full /proc/best.txt "$followed" "$followed/best.txt/" "$followed/none.txt/." "$made/missing/best.txt"; do
     run "$file as a file" "${six[@]}" -o "$file" </dev/null
     judge is_fault "$file: cannot be written"
 done
@@ -260,6 +265,42 @@ if [ "$(id -u)" != 0 ]; then
     run 'a file in a folder that cannot be written' "${six[@]}" -o "$followed/locked/best.txt" </dev/null
     judge is_fault "$followed/locked/best.txt: cannot be written"
 fi
+rm -r "$followed"
+mkdir "$followed"
+printf 'mine\n' | tee "$followed/best.txt.new" "$followed/.best.txt.ttp-0" "$followed/.best.txt.ttp-2" >"$made/mine"
+run 'a file with others of like names' "${six[@]}" -o "$followed/best.txt" </dev/null
+judge is_output "$made/plain"
+judge follows "$followed/best.txt"
+judge test "$(names)" = '.best.txt.ttp-0 .best.txt.ttp-2 best.txt best.txt.new'
+for file in best.txt.new .best.txt.ttp-0 .best.txt.ttp-2; do judge cmp -s "$made/mine" "$followed/$file"; done
+rm -r "$followed"
+mkdir -p "$followed/end"
+ln -s end/best.txt "$followed/link"
+ln -s link "$followed/links"
+run 'a link that leads nowhere as a file' "${six[@]}" -o "$followed/links" </dev/null
+judge is_fault "$followed/links: cannot be written"
+run 'a link that leads nowhere as a log' "${six[@]}" --log "$followed/links" </dev/null
+judge is_fault "$followed/links: cannot be written"
+judge test "$(names)" = 'end link links'
+printf 'old\n' >"$followed/end/best.txt"
+run 'a link as a file' "${six[@]}" -o "$followed/links" </dev/null
+judge is_output "$made/plain"
+judge follows "$followed/end/best.txt"
+judge test "$(readlink "$followed/link" "$followed/links" | paste -sd ' ')" = 'end/best.txt link'
+run 'a link as a log' "${six[@]}" --log "$followed/links" </dev/null
+judge is_output "$made/plain"
+judge are_logged "$followed/end/best.txt" "$made/plain"
+judge test "$(names)" = 'best.txt end link links'
+at_once() {
+    "${six[@]}" --seed 3 -o "$followed/best.txt" </dev/null >"$made/third" &
+    "${six[@]}" --seed 4 -o "$followed/best.txt" </dev/null >"$made/fourth" && wait $!
+}
+run 'two improvements with one file' at_once
+judge ends 0
+judge test "$(names)" = 'best.txt best.txt end link links'
+if cmp -s <(tail_of "$made/third") "$followed/best.txt"; then judge true; else judge cmp -s <(tail_of "$made/fourth") "$followed/best.txt"; fi
+run 'files that words name twice' scripts/check files "$program"
+judge test "$status" = 0
 printf '{"format":' >"$followed/league.json"
 run 'a file beside a league that is none' "$program" improve "$followed/league.json" -o "$followed/unmade.txt" </dev/null
 judge test "$status $(find "$followed" -name '*unmade*')" = '1 '

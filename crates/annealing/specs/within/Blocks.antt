@@ -10,9 +10,9 @@ use Rattle.fixture_board.specs.declared.trial.Trial.{Trial}
 use Rattle.fixture_board.specs.History.{cost_at}
 use Rattle.fixture_board.specs.Record.{Book}
 use Rattle.fixture_board.specs.Trials.{passes, trial_history}
-use Rattle.search.specs.Draws.{drawn_among}
+use Rattle.draws.specs.Draws.{drawn_among}
 use Rattle.annealing.specs.declared.blocks.Block.{Block}
-use Rattle.annealing.specs.declared.blocks.Tally.{Tally}
+use Rattle.annealing.specs.declared.blocks.StepTally.{StepTally}
 use Rattle.annealing.specs.declared.thresholds.TheConstants.{QUANTILES}
 use Rattle.annealing.specs.within.Heats.{threshold_of}
 
@@ -58,7 +58,7 @@ walked league room block (suc n) w =
     let before = walked league room block n w in with_trial league room block before (trial_drawn block before.stream)
 
 -- the tally, the generator and the board are those of the walk
-pub record IsTallied (tally : Tally) (stream : Stream) (board : Book) (w : Walked) : Type 0 where
+pub record IsTallied (tally : StepTally) (stream : Stream) (board : Book) (w : Walked) : Type 0 where
   pub history : board.history ≡ w.history
   pub stream_is : stream ≡ w.stream
   pub feasible : tally.feasible ≡ w.feasible

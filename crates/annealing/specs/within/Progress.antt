@@ -8,8 +8,8 @@ use Rattle.policy.specs.declared.legs.Course.TheVariants.{Cools, Heats}
 use Rattle.policy.specs.declared.legs.Leg.{Leg}
 use Rattle.policy.specs.declared.legs.WeightCourse.{WeightCourse}
 use Rattle.policy.specs.Legs.{kinds_of}
-use Rattle.search.specs.declared.gates.Progress.{Progress}
-use Rattle.annealing.specs.declared.blocks.Tally.{Tally}
+use Rattle.draws.specs.declared.gates.Progress.{Progress}
+use Rattle.annealing.specs.declared.blocks.StepTally.{StepTally}
 use Rattle.annealing.specs.declared.boards.Boards.{Boards}
 use Rattle.annealing.specs.declared.chain.Annealed.{Annealed}
 use Rattle.annealing.specs.declared.legs.Going.{Going}
@@ -24,7 +24,7 @@ pub record IsGoing (leg : Leg) (old : Book) (blocks : ℕ) (going : Going) : Typ
   pub accepted : going.accepted ≤ going.steps
 
 -- what is reported after a block: its steps, and the least total on the board
-abbrev pub progress_of : Going → Tally → Progress
+abbrev pub progress_of : Going → StepTally → Progress
 progress_of going tally =
     let board = going.boards.board in record { steps = tally.steps; least = total_in (best_of board.league board.history) }
 

@@ -4,9 +4,9 @@ ghost use Rattle.policy.specs.Legs.{IsLeg, IsWeightCourse};
 
 use crate::tests::leagues::{Sample, league_of};
 use annealing::{Annealed, Chain, Conditions, LegPlan, anneal, measure};
+use draws::{Gate, NoGate, RunContext, each_round};
 use fixture_board::Board;
 use policy::{Course, Leg, MoveSet, WeightCourse};
-use search::{Gate, NoGate, RunContext, each_round};
 use std::alloc::Global;
 use std::sync::Wait;
 use std::test::Fail;

@@ -1,6 +1,7 @@
 //! The leagues of the tests.
 
-use league::{League, LeagueFault, circular, constant, read_league};
+use league::{League, LeagueFault, circular, constant};
+use league_json::read_league;
 use std::alloc::Global;
 
 /// Six teams that lie apart, with a hard rule and two wishes.

@@ -68,7 +68,11 @@ fn check_leg<R: Wait + Abort>(rt: &R, alloc: Global, asked: Asked) -> Result<(),
 fn legs_of_each_set_in_each_league(rt: HostRuntime) -> Result<(), Fail> {
     for sample in SAMPLES {
         for moves in MOVE_SETS {
-            let leg = Leg { moves, ..MILD.leg };
+            let leg = Leg {
+                moves,
+                steps: 1000,
+                ..MILD.leg
+            };
             check_leg(
                 &rt,
                 rt.alloc(),

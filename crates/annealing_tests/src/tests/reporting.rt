@@ -3,8 +3,8 @@
 use crate::tests::chains::{MILD, WEIGHTS, chain_of, gone_on};
 use crate::tests::checks::check_same;
 use annealing::LegPlan;
+use draws::{Gate, Progress, RunContext};
 use fixture_board::Reply;
-use search::{Gate, Progress, RunContext};
 use std::sync::{Mutex, Wait};
 use std::test::Fail;
 

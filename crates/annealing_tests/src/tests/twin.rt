@@ -3,11 +3,11 @@
 use crate::tests::chains::{Asked, board_of};
 use crate::tests::leagues::Sample;
 use costs::{Cost, Weights};
+use draws::{Draws, draw_among, each_round};
 use fixture_board::{Board, Trial};
 use moves::MoveKind;
 use rand_core::Rng;
 use rand_pcg::Lcg64Xsh32;
-use search::{Draws, draw_among, each_round};
 use std::alloc::Global;
 use std::test::Fail;
 

@@ -4,7 +4,8 @@ ghost use Rattle.std.specs.Prelude.{◌≡◌, [], IfOk, IfSome};
 
 use fixture_board::Board;
 use fixtures::Schedule;
-use league::{circular, read_league};
+use league::circular;
+use league_json::read_league;
 use shared_board::{Seat, Shared};
 use std::alloc::Global;
 use std::test::Fail;

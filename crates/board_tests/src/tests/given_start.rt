@@ -3,16 +3,14 @@
 ghost use Rattle.std.specs.Prelude.{◌≡◌, [], IfOk};
 
 use crate::tests::answers::Answer::{Done, No, Soft};
-use crate::tests::checks::check_same;
 use crate::tests::steps::Act::{Homes, Pin, Rounds, Teams, Undo, Unpin};
 use crate::tests::steps::Sight::{Best, Cost, Pinned, Round};
 use crate::tests::steps::Step::{self, Do, See};
 use crate::tests::steps::check_steps;
-use fixture_board::{Board, BoardFault, Why};
+use fixture_board::{Board, Why};
 use fixtures::{Schedule, berger};
 use league::{League, TeamSet, circular};
 use std::alloc::{AllocError, Global};
-use std::process::Abort;
 use std::test::Fail;
 
 /// The Berger table with rounds 5 and 6 exchanged.
@@ -99,31 +97,4 @@ const UNPINNED: &[Step] = &[
 fn a_kept_game_is_unpinned_moved_and_pinned_again(rt: HostRuntime) -> Result<(), Fail> {
     check_steps(&rt, &mut given_board(rt.alloc())?, UNPINNED);
     Ok(())
-}
-
-/// The league has its start, in which 2-1 is in round 6, and what it keeps.
-fn check_league(rt: &impl Abort, league: &League) {
-    assert!(rt; league.teams() == 4);
-    let found = (league.start_round(1, 0), league.keeps(0, 3), league.near());
-    check_same(rt, &found, &(5, true, 10));
-}
-
-#[test]
-fn a_board_on_a_given_start_with_ample_memory(rt: HostRuntime) -> Result<(), Fail> {
-    check_league(&rt, given_board(rt.alloc())?.league());
-    Ok(())
-}
-
-#[test]
-fn refused_memory_hands_the_given_start_back(rt: HostRuntime) {
-    let Some(league) = given_league(rt.alloc()) else {
-        return;
-    };
-    match Board::new(rt.alloc(), league, 12) {
-        Ok(board) => check_league(&rt, board.league()),
-        Err(refused) => {
-            check_same(&rt, &refused.why, &BoardFault::Memory);
-            check_league(&rt, &refused.league);
-        }
-    }
 }

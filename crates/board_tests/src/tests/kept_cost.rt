@@ -5,7 +5,8 @@ use crate::tests::drawn_numbers::{drawn, drawn_move};
 use crate::tests::questions::{ask_board, propose, shift, undo};
 use costs::cost_of;
 use fixture_board::Board;
-use league::{League, read_league};
+use league::League;
+use league_json::read_league;
 use moves::Move;
 use std::alloc::Global;
 use std::process::Abort;
@@ -111,14 +112,7 @@ fn keeps_its_cost(
 }
 
 /// Numbers of teams, and of changes on a board of so many.
-const SIZES: &[(u8, u64)] = &[
-    (4, 2000),
-    (6, 1000),
-    (8, 1000),
-    (10, 1000),
-    (20, 400),
-    (40, 200),
-];
+const SIZES: &[(u8, u64)] = &[(4, 600), (6, 300), (8, 200), (10, 200), (20, 80), (40, 30)];
 
 #[test]
 fn the_kept_cost_is_that_of_the_whole_schedule(rt: HostRuntime) -> Result<(), Fail> {
@@ -129,7 +123,7 @@ fn the_kept_cost_is_that_of_the_whole_schedule(rt: HostRuntime) -> Result<(), Fa
     Ok(())
 }
 
-const FEWER: &[(u8, u64)] = &[(4, 1000), (6, 500), (20, 100)];
+const FEWER: &[(u8, u64)] = &[(4, 300), (6, 150), (20, 40)];
 
 #[test]
 fn the_kept_cost_is_that_of_the_whole_schedule_with_free_repeats(

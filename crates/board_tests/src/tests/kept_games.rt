@@ -199,9 +199,9 @@ fn known_of(alloc: Global, board: &Board) -> Result<Known, Fail> {
     })
 }
 
-/// After each of 1,000 changes that are drawn.
+/// After each of 200 changes that are drawn.
 fn check_changes(rt: &impl Abort, board: &mut Board, known: &mut Known, state: &mut u64) {
-    for _ in 0..1000 {
+    for _ in 0..200 {
         let ask = drawn_ask(board, state);
         check_drawn(rt, board, known, ask);
     }
@@ -253,7 +253,7 @@ fn check_board(rt: &impl Abort, alloc: Global, state: &mut u64, teams: u8) -> Re
 #[test]
 fn drawn_changes_of_a_given_start(rt: HostRuntime) -> Result<(), Fail> {
     let mut state = 3;
-    for teams in [4, 6, 10, 20, 40] {
+    for teams in [4, 6, 10, 40] {
         check_board(&rt, rt.alloc(), &mut state, teams)?;
     }
     Ok(())

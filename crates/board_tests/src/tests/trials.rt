@@ -155,7 +155,7 @@ fn check_league(
 }
 
 /// Numbers of teams, and of trials on a board of so many.
-const SIZES: &[(u8, u64)] = &[(4, 600), (6, 400), (10, 300), (20, 150), (40, 60)];
+const SIZES: &[(u8, u64)] = &[(4, 200), (6, 150), (10, 100), (20, 60), (40, 20)];
 
 #[test]
 fn trials_with_rules_and_phases(rt: HostRuntime) -> Result<(), Fail> {
@@ -238,8 +238,8 @@ fn check_alike(
 ) -> Result<(), Fail> {
     check_equal(rt, one, other);
     let mut same = state;
-    try_drawn(rt, alloc, one, &mut state, 200)?;
-    try_drawn(rt, alloc, other, &mut same, 200)?;
+    try_drawn(rt, alloc, one, &mut state, 60)?;
+    try_drawn(rt, alloc, other, &mut same, 60)?;
     check_equal(rt, one, other);
     Ok(())
 }

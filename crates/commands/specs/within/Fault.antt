@@ -1,8 +1,8 @@
 -- What private functions alone need beside specs/Fault.antt.
 use Rattle.std.specs.Prelude.{Result, Ok, Err}
-use Rattle.streams.specs.declared.reading.ReadFault.{ReadFault}
-use Rattle.streams.specs.declared.reading.ReadFault.TheVariants as read
-use Rattle.streams.specs.declared.writing.WriteFault.{WriteFault}
+use Rattle.byte_streams.specs.declared.reading.ReadFault.{ReadFault}
+use Rattle.byte_streams.specs.declared.reading.ReadFault.TheVariants as read
+use Rattle.byte_streams.specs.declared.writing.WriteFault.{WriteFault}
 use Rattle.commands.specs.declared.fault.ProgramFault.{ProgramFault}
 use Rattle.commands.specs.declared.fault.ProgramFault.TheVariants.{Read, TooLong, Write, Memory}
 

@@ -3,11 +3,11 @@ use Rattle.std.specs.Prelude.{ℕ, ◌+◌, ◌-◌, ◌*◌, ◌/◌, ◌^◌, 
 use Rattle.std.specs.Prelude.{false, Option, Some, None}
 use Rattle.std.specs.Time.{instant_nanos}
 use Rattle.std.specs.declared.time.Instant.{Instant}
-use Rattle.search.specs.declared.gates.Progress.{Progress}
+use Rattle.draws.specs.declared.gates.Progress.{Progress}
 use Rattle.commands.specs.declared.progress.Extent.{Extent}
 use Rattle.commands.specs.declared.progress.Extent.TheVariants.{Steps, Seconds}
 use Rattle.commands.specs.declared.progress.Reached.{Reached}
-use Rattle.texts.specs.declared.progress_text.Advance.{Advance}
+use Rattle.board_texts.specs.declared.progress_text.Advance.{Advance}
 
 -- the lesser of two totals, each of which may be unknown
 abbrev pub lesser : Option ℕ → Option ℕ → Option ℕ

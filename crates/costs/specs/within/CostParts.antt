@@ -15,8 +15,8 @@ use Rattle.tours.specs.Tours.{travel}
 use Rattle.tours.specs.Streaks.{runs_over}
 use Rattle.tours.specs.Repeats.{repeats}
 use Rattle.tours.specs.Phased.{unphased_part}
-use Rattle.robinx.specs.Laws.{SidesAreMain}
-use Rattle.robinx.specs.Parts.{deviation_part}
+use Rattle.rules.specs.Laws.{SidesAreMain}
+use Rattle.rules.specs.Parts.{deviation_part}
 use Rattle.rule_index.specs.Alterable.{is_alterable_at}
 use Rattle.costs.specs.Costs.{cost_of, hard_penalty, near_cost, penalty_of, soft_penalty, unless_free, where_phased}
 use Rattle.costs.specs.declared.cost.Cost.{Cost}

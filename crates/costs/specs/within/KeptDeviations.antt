@@ -4,8 +4,8 @@ use Rattle.league.specs.Limits.{max_rules}
 use Rattle.league.specs.Sets.{has}
 use Rattle.league.specs.declared.rule.Rule.{Rule}
 use Rattle.fixtures.specs.Games.{Games}
-use Rattle.robinx.specs.Deviations.{deviation}
-use Rattle.robinx.specs.Parts.{deviation_part}
+use Rattle.rules.specs.Deviations.{deviation}
+use Rattle.rules.specs.Parts.{deviation_part}
 use Rattle.costs.specs.Evaluators.{AreDeviations}
 use Rattle.costs.specs.declared.kept_deviations.KeptDeviations.{KeptDeviations}
 use Rattle.costs.specs.declared.scope.Scope.{Scope}

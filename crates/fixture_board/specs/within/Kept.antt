@@ -18,7 +18,8 @@ use Rattle.fixture_board.specs.declared.reply.Why.{Why}
 use Rattle.fixture_board.specs.declared.state.State.{State}
 use Rattle.fixture_board.specs.declared.trial.Trial.{Trial}
 use Rattle.costs.specs.Costs.{score_of, score_limit, total_of}
-use Rattle.fixture_board.specs.History.{effective, games_of, pins_of, cost_at, best_prefix, best_at, max_room, IsLegal}
+use Rattle.choices.specs.Limits.{max_room}
+use Rattle.fixture_board.specs.History.{effective, games_of, pins_of, cost_at, best_prefix, best_at, IsLegal}
 use Rattle.fixture_board.specs.within.PinTable.{ArePinsAt, pin_entries}
 use Rattle.fixture_board.specs.Replies.{refusal, entry}
 use Rattle.fixture_board.specs.Trials.{passes, trial_entry}

@@ -3,11 +3,11 @@ use Rattle.std.specs.Prelude.{ℕ, ◌+◌, ◌%◌, ◌^◌, Bool, List, ◌∷
 use Rattle.std.specs.List.{position_or_len}
 use Rattle.fixture_board.specs.Record.{Book, book}
 use Rattle.fixture_board.specs.Rewound.{rewound}
-use Rattle.policy.specs.declared.waves.Source.{Source}
-use Rattle.policy.specs.declared.waves.Source.TheVariants.{Start, Own, Copies}
+use Rattle.policy.specs.declared.waves.LegSource.{LegSource}
+use Rattle.policy.specs.declared.waves.LegSource.TheVariants.{Start, Own, Copies}
 use Rattle.policy.specs.declared.waves.Wave.{Wave}
 use Rattle.improvement.specs.declared.field.Entrant.{Entrant}
-use Rattle.improvement.specs.declared.stage.Beginning.{Beginning}
+use Rattle.improvement.specs.declared.stage.LegBeginning.{LegBeginning}
 use Rattle.improvement.specs.declared.standing.Standing.{Standing}
 use Rattle.improvement.specs.Legs.{improves, standing_of}
 
@@ -40,13 +40,13 @@ stage_data wave begun before field chains =
     record { wave = wave; begun = begun; before = before; field = field; chains = chains }
 
 -- the chain with which the next bout goes on, if it begins no new one
-abbrev pub chain_for : Source → List Entrant → Option Entrant
+abbrev pub chain_for : LegSource → List Entrant → Option Entrant
 chain_for Start before = None
 chain_for Own before = slice_get before 0
 chain_for Copies before = slice_get before 0
 
 -- the chains that later bouts may have
-abbrev pub rest_for : Source → List Entrant → List Entrant
+abbrev pub rest_for : LegSource → List Entrant → List Entrant
 rest_for Start before = before
 rest_for Own before = drop 1 before
 rest_for Copies before = before
@@ -55,14 +55,14 @@ abbrev pub rewound_board : Book → Book
 rewound_board b = book b.league b.room (rewound b.league b.history)
 
 -- a leg that begins at the best version of a chain
-abbrev pub at_best : Entrant → Beginning
+abbrev pub at_best : Entrant → LegBeginning
 at_best e = record { chain = e.number; weight = e.chain.weight; board = Some (rewound_board e.chain.board) }
 
 -- the number of a chain that is new
 abbrev pub next_number : ℕ → ℕ
 next_number chains = (chains + 1) % 2 ^ 64
 
-abbrev pub beginning_of : StageData → ℕ → Option Entrant → Beginning
+abbrev pub beginning_of : StageData → ℕ → Option Entrant → LegBeginning
 beginning_of s weight None = record { chain = next_number s.chains; weight = weight; board = None }
 beginning_of s weight (Some e) = at_best e
 
@@ -79,7 +79,7 @@ abbrev pub entering : Entrant → StageData → StageData
 entering e s = record s { field = take s.wave.keep (ranked e s.field) }
 
 -- once one more bout was passed over, which was to have this chain
-abbrev pub passing_by : Source → Option Entrant → StageData → StageData
+abbrev pub passing_by : LegSource → Option Entrant → StageData → StageData
 passing_by Own (Some e) s = entering e s
 passing_by _ _ s = s
 

@@ -14,9 +14,9 @@ use Rattle.improvement.specs.declared.legs.LegState.TheVariants.{InThread, Over}
 use Rattle.improvement.specs.declared.legs.RunningLeg.{RunningLeg}
 use Rattle.improvement.specs.declared.legs.Assignment.{Assignment}
 use Rattle.improvement.specs.declared.legs.WaitingLeg.{WaitingLeg}
-use Rattle.improvement.specs.declared.line.Line.{Line}
+use Rattle.improvement.specs.declared.line.LegQueue.{LegQueue}
 use Rattle.improvement.specs.declared.series.Series.{Series}
-use Rattle.improvement.specs.declared.stage.Beginning.{Beginning}
+use Rattle.improvement.specs.declared.stage.LegBeginning.{LegBeginning}
 use Rattle.improvement.specs.within.Fields.{StageData}
 use Rattle.improvement.specs.Legs.{CanBegin, LegRun}
 
@@ -80,7 +80,7 @@ abbrev pub assignment_of_waiting : WaitingLeg → Assignment
 assignment_of_waiting w = w.assignment
 
 -- the legs in line, in their order
-abbrev pub assignments_of : Line → List Assignment
+abbrev pub assignments_of : LegQueue → List Assignment
 assignments_of line = map assignment_of_running line.running.items ++ map assignment_of_waiting line.waiting.items
 
 abbrev pub assigned_steps : Assignment → ℕ
@@ -94,16 +94,16 @@ abbrev pub steps_left : Series → ℕ
 steps_left s = s.policy.left + s.later
 
 -- the steps that no leg has taken yet: those of the legs in line, and those that no leg has got
-abbrev pub left_in : Line → ℕ
+abbrev pub left_in : LegQueue → ℕ
 left_in line = steps_left line.series + sum_by assigned_steps (assignments_of line)
 
 -- what is in line and what comes after it may go on after these legs
-pub record IsLine (start : Book) (legs : List LegRun) (line : Line) : Type 0 where
+pub record IsLine (start : Book) (legs : List LegRun) (line : LegQueue) : Type 0 where
   pub stage : IsStage start legs line.stage
   pub running : All (IsRunning start legs) line.running.items
   pub waiting : All (IsWaiting start legs) line.waiting.items
 
 -- a leg that waits, with this number as its stream
-abbrev pub waiting_for : ℕ → ℕ → Leg → Beginning → WaitingLeg
+abbrev pub waiting_for : ℕ → ℕ → Leg → LegBeginning → WaitingLeg
 waiting_for stream bout leg b =
     record { assignment = record { chain = b.chain; bout = bout; leg = leg }; stream = stream; weight = b.weight; board = b.board }

@@ -2,7 +2,7 @@
 use Rattle.std.specs.Prelude.{◌≡◌, ◌≤◌}
 use Rattle.league.specs.League.{teams, IsLeague}
 use Rattle.policy.specs.Limits.{max_effort}
-use Rattle.search.specs.Draws.{AreRoundsOf}
+use Rattle.draws.specs.Draws.{AreRoundsOf}
 use Rattle.annealing.specs.Walks.{IsUnitOf}
 use Rattle.improvement.specs.declared.setting.Setting.{Setting}
 use Rattle.improvement.specs.Legs.{IsWorkers, room_of}

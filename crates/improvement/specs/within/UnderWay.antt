@@ -3,12 +3,12 @@ use Rattle.std.specs.Prelude.{◌≡◌, ℕ, ◌+◌, Bool, true, List, [], len
 use Rattle.fixture_board.specs.declared.best.Best.{Best}
 use Rattle.fixture_board.specs.History.{best_of}
 use Rattle.fixture_board.specs.Record.{Book, book}
-use Rattle.streams.specs.declared.buffered.BufferedSink.{BufferedSink}
-use Rattle.streams.specs.declared.tally.Tally.{Tally}
-use Rattle.streams.specs.Writing.{Adds, Stops, waiting_in}
+use Rattle.byte_streams.specs.declared.buffered.BufferedSink.{BufferedSink}
+use Rattle.byte_streams.specs.declared.tally.Tally.{Tally}
+use Rattle.byte_streams.specs.Writing.{Adds, Stops, waiting_in}
 use Rattle.annealing.specs.declared.unit.Unit.{Unit as Measure}
 use Rattle.improvement.specs.declared.legs.RunningLeg.{RunningLeg}
-use Rattle.improvement.specs.declared.line.Line.{Line}
+use Rattle.improvement.specs.declared.line.LegQueue.{LegQueue}
 use Rattle.improvement.specs.declared.plan.ImproveFault.{ImproveFault}
 use Rattle.improvement.specs.declared.plan.ImproveFault.TheVariants.{Workers, Memory, Write}
 use Rattle.improvement.specs.declared.plan.ImprovePlan.{ImprovePlan}
@@ -41,7 +41,7 @@ module _ {W : Type 0} (held : W → Option (List ℕ)) (tally : W → Tally) (st
     pub sends : Sends (legs_text start.league unit legs)
 
   -- some legs were reported, these are out of line, and the others stand in it
-  pub record IsUnderWay (out_of_line : List RunningLeg) (line : Line) (reported : Reported) : Type 0 where
+  pub record IsUnderWay (out_of_line : List RunningLeg) (line : LegQueue) (reported : Reported) : Type 0 where
     pub sent : HasSent
     pub steps : sum_by running_steps out_of_line + left_in line + steps_in sent.legs ≡ plan.effort
     pub running : All (IsRunning start sent.legs) out_of_line

@@ -3,13 +3,14 @@
 ghost use Rattle.std.specs.Prelude.{◌≡◌, []};
 
 use super::{Improved, asked, check_same, circle, improvement_of};
+use board_texts::play_script;
+use byte_streams::MemorySink;
 use fixture_board::{Board, MAX_ROOM};
 use std::alloc::Global;
 use std::process::Abort;
 use std::sync::Wait;
 use std::thread::Threads;
-use streams::MemorySink;
-use texts::{next_line, next_word, number, play_script, split_at_line};
+use text_lines::{next_line, next_word, number, split_at_line};
 
 /// Six teams in a circle have the mean distance 9/5, so a rigid leg cools from 18/5 to 9/10. A sixteenth of 1600 steps is for the first
 /// chain, of which such a leg has seven tenths.

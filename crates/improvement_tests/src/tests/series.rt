@@ -4,15 +4,15 @@ ghost use Rattle.std.specs.Prelude.{◌≡◌, ◌≤◌};
 
 use super::legs::number_behind;
 use super::{asked, check_same, circle, improvement_of};
+use byte_streams::{MemorySink, Sink};
+use draws::{NoGate, RunContext};
 use fixture_board::Board;
 use improvement::{ImprovePlan, LegEnded, Watcher, Written, improve};
-use search::{NoGate, RunContext};
 use std::alloc::Global;
 use std::process::Abort;
 use std::sync::Wait;
 use std::thread::Threads;
-use streams::{MemorySink, Sink};
-use texts::{next_line, next_word};
+use text_lines::{next_line, next_word};
 
 /// Counts legs and their steps, and wants so many legs.
 #[derive(Drop)]

@@ -1,13 +1,13 @@
 //! The workers and the seed of an improvement, and what they are for.
 
 use super::{asked, check_same, circle, improvement_of};
+use byte_streams::MemorySink;
+use draws::{Gate, Progress, RunContext};
 use fixture_board::Reply;
 use improvement::{ImprovePlan, NoWatcher, improve};
-use search::{Gate, Progress, RunContext};
 use std::hint::spin_loop;
 use std::sync::Wait;
 use std::sync::atomic::{AtomicU64, Ordering};
-use streams::MemorySink;
 
 /// How often a leg turns at the gate at most.
 const TURNS: u32 = 1_000_000_000;

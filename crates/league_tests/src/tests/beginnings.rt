@@ -1,7 +1,6 @@
 //! Where the boards of leagues begin: the schedule, the games of it that are kept, and what leaving it costs.
 
 use crate::tests::checks::check_same;
-use crate::tests::equality::check_each;
 use crate::tests::league_texts::circle_with;
 use fixtures::{Schedule, berger, berger_fide};
 use league::{League, TeamSet, circular, constant};
@@ -202,67 +201,4 @@ fn each_price_can_be_set(rt: HostRuntime) -> Result<(), Fail> {
         check_same(&rt, &league.near(), &weight);
     }
     Ok(())
-}
-
-/// The rounds of the Berger table that are exchanged, a game that is kept, and the price of leaving the start.
-struct Beginning {
-    exchanged: (u8, u8),
-    kept: Option<(u8, u8)>,
-    near: u32,
-}
-
-// the last one is equal to the Berger table but in how the start is said
-const BEGINNINGS: &[Beginning] = &[
-    Beginning {
-        exchanged: (1, 7),
-        kept: None,
-        near: 0,
-    },
-    Beginning {
-        exchanged: (1, 8),
-        kept: None,
-        near: 0,
-    },
-    Beginning {
-        exchanged: (1, 7),
-        kept: Some((0, 1)),
-        near: 0,
-    },
-    Beginning {
-        exchanged: (1, 7),
-        kept: Some((1, 0)),
-        near: 0,
-    },
-    Beginning {
-        exchanged: (1, 7),
-        kept: None,
-        near: 1,
-    },
-    Beginning {
-        exchanged: (0, 0),
-        kept: None,
-        near: 0,
-    },
-];
-
-/// Six teams in a circle that begin so.
-fn begun(rt: &impl Abort, alloc: Global, beginning: &Beginning) -> Result<League, Fail> {
-    let (k, l) = beginning.exchanged;
-    let mut league = given(rt, alloc, k, l)?;
-    if let Some((home, away)) = beginning.kept {
-        keep(rt, &mut league, home, away);
-    }
-    price(rt, &mut league, beginning.near);
-    Ok(league)
-}
-
-#[test]
-fn leagues_that_begin_otherwise_differ(rt: HostRuntime) -> Result<(), Fail> {
-    let alloc = rt.alloc();
-    let mut leagues = Vec::new(alloc);
-    leagues.push(circular(alloc, 6)?)?;
-    for beginning in BEGINNINGS {
-        leagues.push(begun(&rt, alloc, beginning)?)?;
-    }
-    check_each(&rt, alloc, &leagues)
 }

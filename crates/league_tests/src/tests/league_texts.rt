@@ -1,7 +1,8 @@
 //! Texts of leagues, and of their parts, for the tests; and the fault that is told of one.
 
 use crate::tests::checks::check_same;
-use league::{League, LeagueFault, read_league};
+use league::{League, LeagueFault};
+use league_json::read_league;
 use std::alloc::{AllocError, Global};
 use std::fmt::Write;
 use std::process::Abort;

@@ -3,7 +3,8 @@
 use crate::tests::checks::check_same;
 use crate::tests::league_texts::{check_circle, even_text, league_text};
 use league::LeagueFault::{self, RuleClass, WrongKind};
-use league::{Field, League, circular, constant, read_league};
+use league::{Field, League, circular, constant};
+use league_json::read_league;
 use std::alloc::Global;
 use std::process::Abort;
 use std::test::Fail;
@@ -107,6 +108,15 @@ fn check_forty(rt: &impl Abort, even: &League) {
 fn makes_forty_teams_at_distance_1(rt: HostRuntime) -> Result<(), Fail> {
     check_forty(&rt, &constant(rt.alloc(), 40)?);
     Ok(())
+}
+
+#[test]
+fn makes_no_league_of_other_counts(rt: HostRuntime) {
+    for n in [0, 5, 42] {
+        let faults = (circular(rt.alloc(), n).err(), constant(rt.alloc(), n).err());
+        let wanted = Some(LeagueFault::TeamCount);
+        check_same(&rt, &(n, faults), &(n, (wanted, wanted)));
+    }
 }
 
 const FAULTS: &[(&str, LeagueFault)] = &[

@@ -2,7 +2,8 @@
 
 use crate::tests::checks::check_same;
 use crate::tests::league_texts::{GOOD_RULE, all_games_text, list, with_rules};
-use league::{League, Pairing, RuleBody, Side, SlotSet, TeamSet, Weight, read_league};
+use league::{League, Pairing, RuleBody, Side, SlotSet, TeamSet, Weight};
+use league_json::read_league;
 use std::alloc::Global;
 use std::process::Abort;
 use std::test::Fail;

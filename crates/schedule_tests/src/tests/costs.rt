@@ -4,7 +4,8 @@
 use crate::tests::checks::check_same;
 use crate::tests::small_leagues::{HOMES_EXCHANGED, Plan, league_of, schedule};
 use fixtures::{Schedule, berger};
-use league::{League, constant, read_league};
+use league::{League, constant};
+use league_json::read_league;
 use moves::Move;
 use std::alloc::Global;
 use std::process::Abort;

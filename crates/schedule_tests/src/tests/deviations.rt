@@ -6,7 +6,7 @@ use crate::tests::rule_leagues::{Expected, check_deviations};
 use crate::tests::small_leagues::{self, Plan};
 use fixtures::berger;
 use league::{Side, SlotSet};
-use robinx::breaks;
+use rules::breaks;
 use std::alloc::Global;
 use std::process::Abort;
 use std::test::Fail;

@@ -1,7 +1,7 @@
 //! Games that have another round than at the start.
 
 use crate::tests::checks::check_same;
-use crate::tests::small_leagues::{Plan, schedule};
+use crate::tests::small_leagues::{Plan, circle_of_four, schedule};
 use league::{League, circular};
 use moves::Move;
 use std::alloc::Global;
@@ -14,6 +14,7 @@ const FROM_BERGER: &[(Plan, u64)] = &[
     (Plan::Berger(4), 0),
     (Plan::Fide(4), 4),
     (Plan::Rounds(4, 5), 4),
+    (Plan::Rounds(0, 2), 4),
     (Plan::Moved(&[Move::Homes { i: 0, j: 1 }]), 2),
     (
         Plan::Moved(&[Move::Homes { i: 0, j: 1 }, Move::Homes { i: 0, j: 1 }]),
@@ -36,6 +37,14 @@ fn check_moved(
     assert!(rt; league.teams() == schedule.teams());
     check_same(rt, &moved_games(&schedule, league), &wanted);
     Ok(())
+}
+
+/// In the order of FIDE, the Berger table has other rounds 2 and 3.
+#[test]
+fn moved_games_from_the_order_of_fide(rt: HostRuntime) -> Result<(), Fail> {
+    let league = circle_of_four(rt.alloc(), 2, ",\"start\":\"fide\"")?;
+    check_moved(&rt, rt.alloc(), &league, (Plan::Berger(4), 4))?;
+    check_moved(&rt, rt.alloc(), &league, (Plan::Fide(4), 0))
 }
 
 #[test]

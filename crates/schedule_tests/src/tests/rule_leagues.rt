@@ -3,8 +3,9 @@
 use crate::tests::checks::check_same;
 use crate::tests::small_leagues::{Plan, schedule};
 use fixtures::Schedule;
-use league::{League, read_league};
-use robinx::deviation;
+use league::League;
+use league_json::read_league;
+use rules::deviation;
 use std::alloc::Global;
 use std::process::Abort;
 use std::test::Fail;

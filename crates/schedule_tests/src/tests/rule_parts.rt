@@ -4,7 +4,7 @@ use crate::tests::checks::check_same;
 use crate::tests::rule_leagues::{check_deviation, league_with};
 use fixtures::{Schedule, Touched, berger};
 use league::{League, SlotSet, TeamSet};
-use robinx::{HomeCounts, deviation, deviation_part};
+use rules::{HomeCounts, deviation, deviation_part};
 use std::alloc::Global;
 use std::process::Abort;
 use std::test::Fail;

@@ -4,7 +4,7 @@ use crate::tests::checks::check_same;
 use crate::tests::rule_leagues::league_with;
 use fixtures::Touched;
 use league::{Rule, SlotSet, TeamSet};
-use robinx::{looks_past, touches};
+use rules::{looks_past, touches};
 use std::alloc::Global;
 use std::process::Abort;
 use std::test::Fail;

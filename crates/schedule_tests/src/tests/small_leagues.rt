@@ -1,8 +1,9 @@
 //! Leagues of four teams, and schedules, which several tests take.
 
-use fixtures::{Schedule, Touched, berger, berger_fide};
+use fixtures::{Schedule, berger, berger_fide};
 use league::limits::{MAX_TEAMS, MIN_TEAMS};
-use league::{League, SlotSet, TeamSet, read_league};
+use league::{League, TeamSet};
+use league_json::read_league;
 use moves::{Move, apply, check};
 use std::alloc::Global;
 use std::test::Fail;
@@ -73,13 +74,5 @@ pub(crate) fn schedule(alloc: Global, plan: Plan) -> Result<Schedule, Fail> {
         Plan::Fide(teams) => start_of(alloc, teams, true),
         Plan::Rounds(k, l) => rounds_exchanged(alloc, k, l),
         Plan::Moved(moves) => moved(alloc, moves),
-    }
-}
-
-/// All cells of the last two rounds of four teams.
-pub(crate) fn last_two_rounds() -> Touched {
-    Touched {
-        teams: TeamSet::below(4),
-        rounds: SlotSet::empty().with(4).with(5),
     }
 }

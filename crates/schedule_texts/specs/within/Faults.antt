@@ -1,6 +1,6 @@
 -- What private functions alone need beside specs/Faults.antt.
 use Rattle.std.specs.Prelude.{ℕ, Bool, List}
-use Rattle.streams.specs.Pieces.{pieces_below}
+use Rattle.byte_streams.specs.Pieces.{pieces_below}
 use Rattle.fixtures.specs.declared.game.Game.{Game}
 use Rattle.fixtures.specs.Games.{round_count}
 use Rattle.schedule_texts.specs.declared.counted.Counted.{Counted}

@@ -8,14 +8,14 @@ use Rattle.fixture_board.specs.declared.reply.Reply.{Reply}
 use Rattle.shared_board.specs.Held.{under}
 use Rattle.shared_board.specs.Seats.{BoardId, SeatValue}
 use Rattle.shared_board.specs.Setting.{Setting}
-use Rattle.search.specs.declared.gates.Progress.{Progress}
-use Rattle.search.specs.declared.runs.SearchPlan.{SearchPlan}
+use Rattle.draws.specs.declared.gates.Progress.{Progress}
+use Rattle.choices.specs.declared.search_plan.SearchPlan.{SearchPlan}
 use Rattle.search.specs.declared.workers.Report.{Report}
 use Rattle.search.specs.declared.workers.WorkerPlan.{WorkerPlan}
 use Rattle.search.specs.declared.runs.buffers.RunBuffers.{RunBuffers}
 use Rattle.search.specs.declared.runs.threads.WorkerInput.{WorkerInput}
 use Rattle.search.specs.declared.runs.threads.Ended.{Ended}
-use Rattle.search.specs.declared.runs.threads.Given.{Given}
+use Rattle.search.specs.declared.runs.threads.WorkerTask.{WorkerTask}
 use Rattle.search.specs.Heard.{IsOfWorker}
 use Rattle.search.specs.Reports.{IsReport}
 
@@ -66,15 +66,15 @@ abbrev pub plan_of : SearchPlan → ℕ → WorkerPlan
 plan_of plan worker = record { worker = worker; seed = plan.seed; steps = plan.steps; slack = plan.slack }
 
 -- what a thread was given to do
-abbrev pub handle_input : {G : Type 0} → PromisedHandle Ended (Given G) → WorkerInput
+abbrev pub handle_input : {G : Type 0} → PromisedHandle Ended (WorkerTask G) → WorkerInput
 handle_input h = h.promise.input.value
 
-abbrev pub handle_number : {G : Type 0} → PromisedHandle Ended (Given G) → ℕ
+abbrev pub handle_number : {G : Type 0} → PromisedHandle Ended (WorkerTask G) → ℕ
 handle_number h = input_number (handle_input h)
 
 -- a thread by a fresh seat, through the gate, with the league and by the plan
 pub record IsHandle {G : Type 0} (gate : G) (league : LeagueData) (plan : SearchPlan) (table : BoardId)
-    (h : PromisedHandle Ended (Given G)) : Type 0 where
+    (h : PromisedHandle Ended (WorkerTask G)) : Type 0 where
   pub plan_is : h.promise.plan ≡ plan
   pub fresh : IsWorkerInput table (handle_input h)
   pub league_is : h.promise.league.value ≡ league
@@ -82,7 +82,7 @@ pub record IsHandle {G : Type 0} (gate : G) (league : LeagueData) (plan : Search
 
 -- inputs by fresh seats of a board of this league, if it is said to be, and room for their threads
 pub record CanStart {G : Type 0} (of_boards : Bool) (league : LeagueData) (table : BoardId) (inputs : Vec WorkerInput Global)
-    (handles : Vec (PromisedHandle Ended (Given G)) Global) : Type 0 where
+    (handles : Vec (PromisedHandle Ended (WorkerTask G)) Global) : Type 0 where
   pub inputs_are : All (IsWorkerInput table) inputs.items
   pub scoring : All (IsScoringFor of_boards league) inputs.items
   pub no_handle : handles.items ≡ []
@@ -90,7 +90,7 @@ pub record CanStart {G : Type 0} (of_boards : Bool) (league : LeagueData) (table
 
 -- threads for the first of the inputs, or for all of them
 pub record AreStarted {G : Type 0} (gate : G) (league : LeagueData) (plan : SearchPlan) (table : BoardId) (inputs : Vec WorkerInput Global)
-    (all : Bool) (handles : Vec (PromisedHandle Ended (Given G)) Global) : Type 0 where
+    (all : Bool) (handles : Vec (PromisedHandle Ended (WorkerTask G)) Global) : Type 0 where
   pub handles_are : All (IsHandle gate league plan table) handles.items
   pub few : vec_len handles ≤ vec_len inputs
   pub each : IsTrue all → map handle_input handles.items ≡ inputs.items

@@ -18,7 +18,7 @@ use Rattle.moves.specs.Moves.{fault_of, moved}
 use Rattle.costs.specs.declared.cost.Cost.{Cost}
 use Rattle.costs.specs.Costs.{cost_of, score_of}
 use Rattle.search.specs.Doors.{Replies}
-use Rattle.search.specs.declared.gates.Progress.{Progress}
+use Rattle.draws.specs.declared.gates.Progress.{Progress}
 use Rattle.search.specs.declared.workers.Report.{Report}
 use Rattle.search.specs.declared.workers.steps.StepResult.{StepResult}
 use Rattle.search.specs.declared.workers.steps.Candidate.{Candidate}

@@ -9,9 +9,10 @@ ghost use Rattle.search.specs.Outcomes.{AreCredited, accepted_in};
 ghost use Rattle.search.specs.Heard.{AreOf};
 ghost use Rattle.search.specs.Reports.{IsReport};
 
-use super::SearchPlan;
+use crate::SeatDoor;
 use crate::workers::{Context, Report, Scoring, WorkerPlan, take_steps};
-use crate::{Gate, SeatDoor};
+use choices::SearchPlan;
+use draws::Gate;
 use fixtures::Schedule;
 use league::League;
 use shared_board::{Seat, Shared, SplitFault};
@@ -45,22 +46,22 @@ pub(crate) struct Ended {
 
 /// The promise of a worker's thread: it works by the plan and the input that it was given, and its report counts the replies that the
 /// gate heard.
-pub(crate) struct Given<G> {
+pub(crate) struct WorkerTask<G> {
     plan: SearchPlan,
     input: Snapshot<WorkerInput>,
     league: Snapshot<League>,
     gate: Snapshot<G>,
 }
 
-impl<G: Gate> Promise<Ended> for Given<G> {
+impl<G: Gate> Promise<Ended> for WorkerTask<G> {
     ghost use Rattle.search.specs.within.RunParts.{IsBack};
 
     ghost kept_by = { λ p e. IsBack (G.heard p.gate.value) (G.was_reported p.gate.value) p.league.value p.plan p.input.value e.report e.seat };
 }
 
-impl<G> Drop for Given<G> {
+impl<G> Drop for WorkerTask<G> {
     fn drop(self) {
-        let Given {
+        let WorkerTask {
             plan: _,
             input: _,
             league: _,
@@ -69,7 +70,7 @@ impl<G> Drop for Given<G> {
     }
 }
 
-pub(crate) type Handle<G> = PromisedHandle<Ended, Given<G>>;
+pub(crate) type Handle<G> = PromisedHandle<Ended, WorkerTask<G>>;
 
 /// An input for each copy, in the order of the workers. Each seat is split from the one before, so their numbers rise. The
 /// last one stays with the run.
@@ -163,7 +164,7 @@ fn start<'s, E, R: Wait + Sync, G: Gate + Sync>(
     } = run;
     let Context { rt, gate, scoring } = context;
     let Scoring { league, of_boards } = scoring;
-    let given = Given {
+    let given = WorkerTask {
         plan,
         input: Snapshot::of(&input),
         league: Snapshot::of(league),

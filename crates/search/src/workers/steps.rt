@@ -7,8 +7,9 @@ ghost use Rattle.fixtures.specs.Exchanges.{exchanged_by, IsExchange};
 ghost use Rattle.search.specs.within.Steps.{IsAllowedExchange, IsAnswered, IsCopyCost, IsLeftOut, IsProposed, IsScoring};
 ghost use Rattle.search.specs.within.Steps.{IsResultOf, accepted_count, asked_of, least_with, proposal_of};
 
-use crate::{Door, Gate};
+use crate::Door;
 use costs::{Attempt, Cost, Evaluator, Weights, cost_of, make_within};
+use draws::Gate;
 use fixture_board::{Proposal, Reply, Why};
 use fixtures::{Exchange, Schedule};
 use league::League;

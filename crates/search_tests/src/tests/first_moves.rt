@@ -4,9 +4,9 @@ ghost use Rattle.std.specs.Prelude.{◌≤◌};
 ghost use Rattle.league.specs.Limits.{max_teams};
 
 use crate::tests::checks::check_same;
+use draws::draw;
 use moves::Move;
 use rand_pcg::Lcg64Xsh32;
-use search::draw;
 use std::process::Abort;
 
 /// The next moves of the generator of a seed and a worker are these.

@@ -4,9 +4,10 @@ ghost use Rattle.std.specs.Prelude.{◌≡◌, All, IfOk};
 
 use crate::tests::boards::board;
 use crate::tests::checks::{check_holds, check_same};
+use draws::{Gate, Progress, RunContext};
 use fixture_board::Reply;
 use league::circular;
-use search::{Gate, Outcome, Progress, RunContext, SearchPlan, run_with};
+use search::{Outcome, SearchPlan, run_with};
 use std::alloc::Global;
 use std::process::Abort;
 use std::sync::Wait;

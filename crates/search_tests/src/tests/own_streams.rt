@@ -3,14 +3,12 @@
 use crate::tests::boards::{at_any_cost, check_same_history, circle};
 use crate::tests::checks::{check_distinct, check_holds, check_holds_of, check_same};
 use crate::tests::searches::{AskedRun, searched_with};
+use draws::{Gate, NoGate, Progress, draw};
 use fixture_board::{Board, Reply};
 use fixtures::Schedule;
 use moves::{Move, check};
 use rand_pcg::Lcg64Xsh32;
-use search::{
-    Gate, MAX_WORKERS, NoGate, Outcome, OwnDoor, Progress, Reports, SearchPlan, WorkerPlan, draw,
-    worker,
-};
+use search::{MAX_WORKERS, Outcome, OwnDoor, Reports, SearchPlan, WorkerPlan, worker};
 use std::alloc::Global;
 use std::process::Abort;
 use std::sync::{Condvar, Mutex, Wait};
@@ -145,11 +143,6 @@ fn check_many_accepted(rt: &impl Abort, reports: &Reports, workers: u32) {
 #[test]
 fn four_workers_draw_from_their_own_streams(rt: HostRuntime) -> Result<(), Fail> {
     expect_own_streams(&rt, rt.alloc(), 4)
-}
-
-#[test]
-fn sixteen_workers_draw_from_their_own_streams(rt: HostRuntime) -> Result<(), Fail> {
-    expect_own_streams(&rt, rt.alloc(), 16)
 }
 
 /// The history that a worker without others makes on a board.

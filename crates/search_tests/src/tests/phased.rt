@@ -5,7 +5,7 @@ ghost use Rattle.std.specs.Prelude.{◌≡◌, [], IfOk};
 use crate::tests::checks::{check_holds, check_holds_of};
 use fixture_board::Board;
 use fixtures::Schedule;
-use league::read_league;
+use league_json::read_league;
 use search::{SearchPlan, run};
 use std::alloc::Global;
 use std::process::Abort;

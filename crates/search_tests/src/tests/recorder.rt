@@ -4,9 +4,10 @@ ghost use Rattle.std.specs.Prelude.{◌≡◌};
 
 use crate::tests::boards::at_any_cost;
 use crate::tests::locked::LockedDoor;
+use draws::{Gate, Progress};
 use fixture_board::{Board, Change, Proposal, Reply, Seen};
 use fixtures::Schedule;
-use search::{Door, Gate, Progress};
+use search::Door;
 use std::fmt::Write;
 use std::sync::{Mutex, Wait};
 

@@ -2,8 +2,9 @@
 
 use crate::tests::checks::check_same;
 use crate::tests::searches::{AskedRun, searched_with};
+use draws::{Gate, Progress};
 use fixture_board::Reply;
-use search::{Gate, Progress, SearchPlan};
+use search::SearchPlan;
 use std::alloc::Global;
 use std::fmt::Write;
 use std::process::Abort;

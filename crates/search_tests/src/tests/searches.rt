@@ -3,8 +3,9 @@
 ghost use Rattle.std.specs.Prelude.{◌≡◌, length, IfOk};
 
 use crate::tests::boards::board;
+use draws::{Gate, RunContext};
 use league::circular;
-use search::{Gate, Outcome, RunContext, SearchPlan, run, run_with};
+use search::{Outcome, SearchPlan, run, run_with};
 use std::alloc::Global;
 use std::sync::Wait;
 use std::test::Fail;

@@ -16,7 +16,7 @@ ghost use Rattle.shared_board.specs.within.Ending.{IsSeatAfter, IsOfBoth, Brough
 ghost use Rattle.shared_board.specs.within.Judging.{IsJudged};
 
 use crate::plays::{Both, Commit, Count, Draw, Leave, Post, Quit, Take, Tell};
-use crate::shared::{BEST, FRONT, Judged, NUMBERS, SLOT, Shared, TURN, Token};
+use crate::shared::{BEST, FRONT, JudgedAsk, NUMBERS, SLOT, Shared, TURN, Token};
 use fixture_board::{Ask, Best, Board, Reply, Seen};
 use fixtures::Schedule;
 use std::hint::spin_loop;
@@ -115,7 +115,7 @@ impl Shared {
 
     /// The reply of the board, and its version and its best total then.
     #[tactic(auto, unfolding(fixture_board::specs::Laws::least_of))]
-    pub(crate) fn judge(&self, token: &mut Token, number: u32, ask: Ask) -> Judged
+    pub(crate) fn judge(&self, token: &mut Token, number: u32, ask: Ask) -> JudgedAsk
         requires table { token.old.table_id ≡ self.now }
         requires board { HasBoard token.old.me (on_board token.old.me.1) }
         ensures same { (token.new.table_id ≡ token.old.table_id) × (token.new.me.0 ≡ token.old.me.0) }
@@ -127,7 +127,7 @@ impl Shared {
         match token.slot_mut(&self.table.shared, SLOT) {
             Some(board) => {
                 let reply = board.answer(number, ask);
-                Judged {
+                JudgedAsk {
                     reply,
                     version: board.version(),
                     least: number_of(board.best()),
@@ -223,7 +223,7 @@ impl Shared {
     }
 
     /// Commits what the board granted, and leaves the turn.
-    pub(crate) fn conclude(&self, token: &mut Token, _number: u32, _ask: Ask, judged: &Judged)
+    pub(crate) fn conclude(&self, token: &mut Token, _number: u32, _ask: Ask, judged: &JudgedAsk)
         requires table { token.old.table_id ≡ self.now }
         requires turn { (token.old.me.0.live ≡ true) × IsSettled token.old.me.0.stage × (0 < times _number token.old.me.0.held) }
         requires legal { IsLegal token.old.me.0.setting.league token.old.me.0.setting.room (kept token.old.me.0.stage) }

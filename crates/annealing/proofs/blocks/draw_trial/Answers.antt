@@ -1,4 +1,4 @@
-use Rattle.search.specs.Draws.{drawn_among}
+use Rattle.draws.specs.Draws.{drawn_among}
 use Rattle.annealing.specs.within.Blocks.{trial_drawn}
 use Rattle.annealing.proofs.Steps.{trial_from-by}
 use Rattle.annealing.proofs.blocks.draw_trial.Goals as goal

@@ -1,6 +1,6 @@
 use Rattle.std.proofs.Common.{refl, sym, ◌∙◌, ap}
 use Rattle.std.specs.Int.{from_bool}
-use Rattle.search.specs.Draws.{stream_of_generator}
+use Rattle.draws.specs.Draws.{stream_of_generator}
 use Rattle.annealing.proofs.Steps.{AreSteps-none, AreSteps-made, AreSteps-left}
 use Rattle.annealing.proofs.blocks.take_steps.Goals as goal
 use Rattle.annealing.proofs.blocks.take_steps.Goals.{in-Some, in-None}

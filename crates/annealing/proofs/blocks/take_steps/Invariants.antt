@@ -1,4 +1,4 @@
-use Rattle.search.specs.Draws.{stream_of_generator}
+use Rattle.draws.specs.Draws.{stream_of_generator}
 use Rattle.annealing.proofs.Steps.{AreSteps}
 use Rattle.annealing.proofs.blocks.take_steps.Given as goal
 

@@ -1,9 +1,9 @@
 use Rattle.std.proofs.Common.{◌≡◌, ℕ, ap, refl, sym, subst, arith}
 use Rattle.league.specs.League.{teams}
-use Rattle.search.specs.Draws.{AreRoundsOf}
-use Rattle.search.specs.Heard.{AreReported}
-use Rattle.search.proofs.ForCallers.{reported_more, reported_none}
-use Rattle.search.specs.declared.gates.Progress.{Progress}
+use Rattle.draws.specs.Draws.{AreRoundsOf}
+use Rattle.draws.specs.Reported.{AreReported}
+use Rattle.draws.proofs.ForCallers.{reported_more, reported_none}
+use Rattle.draws.specs.declared.gates.Progress.{Progress}
 use Rattle.annealing.specs.within.Heats.{block_count}
 use Rattle.annealing.specs.within.Progress.{IsGoing}
 use Rattle.annealing.proofs.Ends.{IsAnnealed-all, IsAnnealed-heated, IsGoing-none}

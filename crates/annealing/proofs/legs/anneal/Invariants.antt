@@ -1,5 +1,5 @@
 use Rattle.std.proofs.Common.{◌≤◌}
-use Rattle.search.specs.Heard.{AreReported}
+use Rattle.draws.specs.Reported.{AreReported}
 use Rattle.annealing.specs.within.Progress.{IsGoing, IsWithin}
 use Rattle.annealing.proofs.legs.anneal.Given as goal
 

@@ -4,7 +4,7 @@ use Rattle.costs.specs.Costs.{total_of}
 use Rattle.fixture_board.specs.Record.{Book}
 use Rattle.fixture_board.specs.Replies.{greatest}
 use Rattle.fixture_board.specs.Trials.{trial_history}
-use Rattle.search.specs.Draws.{stream_of_generator}
+use Rattle.draws.specs.Draws.{stream_of_generator}
 use Rattle.annealing.specs.Walks.{moved_on, total_at, unless_none, walk_after, Walk}
 use Rattle.annealing.proofs.Walks.{next_drawn-by, walk_at, walk_at-more, walk_at-none}
 use Rattle.annealing.proofs.walk.changes_on_walk.Goals as goal

@@ -1,5 +1,5 @@
 use Rattle.std.proofs.Common.{◌≡◌, ◌≤◌, vec_len, vec_capacity}
-use Rattle.search.specs.Draws.{stream_of_generator}
+use Rattle.draws.specs.Draws.{stream_of_generator}
 use Rattle.annealing.specs.Walks.{total_at, walk_after}
 use Rattle.annealing.proofs.Walks.{walk_at}
 use Rattle.annealing.proofs.walk.changes_on_walk.Given as goal

@@ -1,4 +1,4 @@
-use Rattle.distance_tables.specs.LeagueText.{said_by}
+use Rattle.league_csv.specs.LeagueText.{said_by}
 use Rattle.commands.proofs.Endings.{ends_made}
 use Rattle.commands.proofs.league_command.league_on.Goals as goal
 

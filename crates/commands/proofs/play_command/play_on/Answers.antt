@@ -1,6 +1,6 @@
 use Rattle.std.proofs.Common.{option_map}
 use Rattle.std.specs.Str.Lines.{lines}
-use Rattle.texts.specs.PlayText.{play_text}
+use Rattle.board_texts.specs.PlayText.{play_text}
 use Rattle.commands.specs.Play.{AnswersPlayOn}
 use Rattle.commands.proofs.Endings.{answers_play, ends_written}
 use Rattle.commands.proofs.play_command.play_on.Goals as goal

@@ -1,7 +1,7 @@
 use Rattle.std.proofs.Common.{◌≡◌, Some, Ok, option_map, ap, refl}
 use Rattle.std.proofs.lemmas.Result.{err_from_is_err_and}
 use Rattle.std.specs.Str.Lines.{lines}
-use Rattle.schedule_tables.specs.Table.{schedule_lines}
+use Rattle.schedule_csv.specs.Table.{schedule_lines}
 use Rattle.commands.proofs.Reports.{ends_at_row, ends_reported}
 use Rattle.commands.proofs.report_command.report_on.Goals as goal
 

@@ -1,6 +1,6 @@
 use Rattle.std.proofs.Common.{arith}
-use Rattle.streams.proofs.Pieces.{Adds-delivers, Stops-delivers}
-use Rattle.texts.proofs.ForCallers.{prefix_at}
+use Rattle.byte_streams.proofs.Pieces.{Adds-delivers, Stops-delivers}
+use Rattle.text_lines.proofs.ForCallers.{prefix_at}
 use Rattle.commands.proofs.search_text.search_report.Goals as goal
 
 pub returns-in_err-write_outcome-clause-prefix : goal.returns-in_err-write_outcome-clause-prefix

@@ -1,5 +1,5 @@
-use Rattle.texts.specs.SearchText.{found_text}
-use Rattle.streams.proofs.Pieces.{Adds-stops, Adds-then, Adds-writes, Stops-more, Stops-writes}
+use Rattle.board_texts.specs.SearchText.{found_text}
+use Rattle.byte_streams.proofs.Pieces.{Adds-stops, Adds-then, Adds-writes, Stops-more, Stops-writes}
 use Rattle.commands.specs.Find.{search_text, worker_lines}
 use Rattle.commands.proofs.search_text.write_outcome.Goals as goal
 

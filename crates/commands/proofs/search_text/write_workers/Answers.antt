@@ -1,7 +1,7 @@
 use Rattle.std.proofs.Common.{◌≡◌, [], drop, arith}
 use Rattle.std.proofs.lemmas.List.{drop_all}
-use Rattle.streams.proofs.Pieces.{Stops-writes}
-use Rattle.texts.proofs.ForCallers.{none_added, one_added, one_stopped, all_added}
+use Rattle.byte_streams.proofs.Pieces.{Stops-writes}
+use Rattle.text_lines.proofs.ForCallers.{none_added, one_added, one_stopped, all_added}
 use Rattle.commands.proofs.Reporting.{workers_from}
 use Rattle.commands.proofs.search_text.write_workers.Goals as goal
 

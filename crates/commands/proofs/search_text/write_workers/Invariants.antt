@@ -1,5 +1,5 @@
 use Rattle.std.proofs.Common.{◌+◌, drop}
-use Rattle.texts.proofs.ForCallers.{AddsAllBut}
+use Rattle.text_lines.proofs.ForCallers.{AddsAllBut}
 use Rattle.commands.specs.Find.{worker_lines}
 use Rattle.commands.proofs.search_text.write_workers.Given as goal
 

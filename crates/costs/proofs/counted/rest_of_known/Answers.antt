@@ -3,8 +3,8 @@ use Rattle.std.proofs.lemmas.List.{length-set}
 use Rattle.league.specs.Limits.{deviation_limit}
 use Rattle.league.specs.Sets.{has, IsBelow}
 use Rattle.league.proofs.ForCallers.{lowest_below}
-use Rattle.robinx.specs.Deviations.{deviation}
-use Rattle.robinx.proofs.ForCallers.{deviation_below, part_le}
+use Rattle.rules.specs.Deviations.{deviation}
+use Rattle.rules.proofs.ForCallers.{deviation_below, part_le}
 use Rattle.costs.specs.Costs.{hard_penalty, soft_penalty}
 use Rattle.costs.proofs.KeptDeviations.{rest_more, rests_all}
 use Rattle.costs.proofs.KnownRests.{adds_within, known_of_broken, rest_begun, rest_grows, rest_scores_less, rest_whole, stays_told}

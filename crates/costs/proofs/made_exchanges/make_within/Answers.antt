@@ -8,7 +8,7 @@ use Rattle.costs.specs.within.KeptDeviations.{AreRests}
 use Rattle.costs.specs.Evaluators.{IsEvaluatorOf}
 use Rattle.std.specs.Prelude.{slice_index}
 use Rattle.league.specs.declared.rule.Rule.{Rule}
-use Rattle.robinx.specs.Deviations.{deviation}
+use Rattle.rules.specs.Deviations.{deviation}
 use Rattle.costs.proofs.KeptDeviations.{index_below, from_some, kept_after, known_at, rests_after, still_deviations}
 use Rattle.costs.proofs.Parts.{predicted_alone, score_after, within_is_small}
 use Rattle.costs.proofs.made_exchanges.make_within.Goals as goal

@@ -2,8 +2,8 @@ use Rattle.std.proofs.Common.{◌<◌, length, refl, ◌∙◌, sym, ap, arith}
 use Rattle.league.specs.Limits.{deviation_limit}
 use Rattle.league.specs.Sets.{has, IsBelow}
 use Rattle.league.proofs.ForCallers.{lowest_below, sum_without_none, sum_without_more, sum_without_all}
-use Rattle.robinx.specs.Deviations.{deviation}
-use Rattle.robinx.proofs.ForCallers.{deviation_below}
+use Rattle.rules.specs.Deviations.{deviation}
+use Rattle.rules.proofs.ForCallers.{deviation_below}
 use Rattle.costs.specs.Costs.{hard_penalty, soft_penalty, penalty_of}
 use Rattle.costs.proofs.PartLimits.{hard_nothing, soft_nothing}
 use Rattle.costs.proofs.Parts.{rule_for}

@@ -4,9 +4,9 @@ use Rattle.std.proofs.lemmas.List.{length-set}
 use Rattle.league.specs.Limits.{deviation_limit}
 use Rattle.league.specs.Sets.{has}
 use Rattle.league.proofs.ForCallers.{has_empty, lowest_below, lowest_gone, others_kept}
-use Rattle.robinx.specs.Deviations.{deviation}
-use Rattle.robinx.specs.Parts.{deviation_part}
-use Rattle.robinx.proofs.ForCallers.{deviation_below}
+use Rattle.rules.specs.Deviations.{deviation}
+use Rattle.rules.specs.Parts.{deviation_part}
+use Rattle.rules.proofs.ForCallers.{deviation_below}
 use Rattle.costs.specs.within.KeptDeviations.{rest_at}
 use Rattle.costs.proofs.KeptDeviations.{rest_taken, rests_same}
 use Rattle.costs.proofs.Parts.{rule_for}

@@ -1,7 +1,7 @@
 use Rattle.std.proofs.Common.{◌≡◌, ◌==◌, false, ◌∷◌, [], codes, decimal, length, arith}
 use Rattle.std.proofs.lemmas.Bool.Decides.{nat_tests}
 use Rattle.std.specs.List.{concat}
-use Rattle.streams.proofs.Pieces.{Adds-writes, Stops-more, Stops-writes}
+use Rattle.byte_streams.proofs.Pieces.{Adds-writes, Stops-more, Stops-writes}
 use Rattle.improvement.specs.Broken.{broken_in}
 use Rattle.improvement.proofs.broken.write_line.Goals as goal
 

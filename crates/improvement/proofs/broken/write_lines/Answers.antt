@@ -1,4 +1,4 @@
-use Rattle.streams.proofs.Pieces.{Adds-stops, Adds-then, Adds-writes, Stops-more, Stops-writes}
+use Rattle.byte_streams.proofs.Pieces.{Adds-stops, Adds-then, Adds-writes, Stops-more, Stops-writes}
 use Rattle.improvement.specs.Broken.{broken_line, broken_lines, rule_lines}
 use Rattle.improvement.specs.declared.broken.Part.TheVariants.{Halves, Repeats}
 use Rattle.improvement.proofs.broken.write_lines.Goals as goal

@@ -1,4 +1,4 @@
-use Rattle.streams.proofs.Pieces.{Adds-piece, Stops-in_pieces, Stops-writes}
+use Rattle.byte_streams.proofs.Pieces.{Adds-piece, Stops-in_pieces, Stops-writes}
 use Rattle.improvement.specs.Broken.{broken_line}
 use Rattle.improvement.specs.declared.broken.Part.TheVariants.{RuleAt}
 use Rattle.improvement.proofs.broken.write_rules.Goals as goal

@@ -1,5 +1,5 @@
-use Rattle.streams.specs.Pieces.{pieces_below}
-use Rattle.streams.specs.Writing.{Adds}
+use Rattle.byte_streams.specs.Pieces.{pieces_below}
+use Rattle.byte_streams.specs.Writing.{Adds}
 use Rattle.improvement.specs.Broken.{broken_line}
 use Rattle.improvement.specs.declared.broken.Part.TheVariants.{RuleAt}
 use Rattle.improvement.proofs.broken.write_rules.Given as goal

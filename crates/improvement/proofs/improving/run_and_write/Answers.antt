@@ -1,7 +1,7 @@
 use Rattle.std.proofs.Common.{append-nil}
 use Rattle.std.proofs.lemmas.Result.{err_from_is_err_and}
-use Rattle.streams.proofs.Pieces.{Adds-stops, Adds-then, Stops-more}
-use Rattle.texts.specs.SearchText.{improved_text}
+use Rattle.byte_streams.proofs.Pieces.{Adds-stops, Adds-then, Stops-more}
+use Rattle.board_texts.specs.SearchText.{improved_text}
 use Rattle.improvement.proofs.Ends.{end_stops, end_written, reported_in}
 use Rattle.improvement.proofs.improving.run_and_write.Goals as goal
 

@@ -1,7 +1,7 @@
 use Rattle.std.proofs.Common.{◌∷◌, [], codes, decimal}
 use Rattle.std.specs.List.{concat}
-use Rattle.streams.proofs.Pieces.{Adds-writes, Stops-more, Stops-writes}
-use Rattle.texts.specs.SearchText.{best_sheet}
+use Rattle.byte_streams.proofs.Pieces.{Adds-writes, Stops-more, Stops-writes}
+use Rattle.board_texts.specs.SearchText.{best_sheet}
 use Rattle.improvement.proofs.leg_text.write_best.Goals as goal
 
 pub returns-in_err-write_best_sheet : goal.returns-in_err-write_best_sheet

@@ -1,5 +1,5 @@
 use Rattle.std.proofs.Common.{append-nil}
-use Rattle.streams.proofs.Pieces.{Adds-stops, Adds-then, Adds-writes, Stops-more, Stops-writes}
+use Rattle.byte_streams.proofs.Pieces.{Adds-stops, Adds-then, Adds-writes, Stops-more, Stops-writes}
 use Rattle.improvement.specs.LegText.{leg_text, solution_text}
 use Rattle.improvement.proofs.leg_text.write_leg.Goals as goal
 

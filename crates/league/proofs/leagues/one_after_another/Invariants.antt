@@ -1,6 +1,6 @@
 -- The numbers so far, and those of the rows that are left, are the numbers of the table.
 use Rattle.std.proofs.Common.{◌≡◌, ◌++◌, drop}
-use Rattle.league.specs.within.Views.{rows}
+use Rattle.league.specs.Views.{rows}
 use Rattle.league.specs.within.Rows.{joined}
 use Rattle.league.proofs.leagues.one_after_another.Given as goal
 

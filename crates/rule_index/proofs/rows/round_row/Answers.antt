@@ -1,7 +1,7 @@
 use Rattle.rule_index.specs.Alterable.{passes_at}
 use Rattle.std.proofs.Common.{◌≡◌, ◌∙◌, ap, arith}
 use Rattle.league.specs.Sets.{has, with_number}
-use Rattle.robinx.specs.Touches.{looks_at_round}
+use Rattle.rules.specs.Touches.{looks_at_round}
 use Rattle.rule_index.specs.Index.{looks_in_round}
 use Rattle.rule_index.proofs.Collected.{collected_none, collected_more, collected_all, passes_here, passes_past}
 use Rattle.rule_index.proofs.rows.round_row.Goals as goal

@@ -2,7 +2,7 @@ use Rattle.std.proofs.Common.{◌≡◌, ℕ, ◌≤◌, ◌∙◌, Bool, false,
 use Rattle.league.specs.declared.rule.RuleBody.{RuleBody}
 use Rattle.rule_index.specs.Alterable.{passes_at}
 use Rattle.league.specs.Sets.{with_number}
-use Rattle.robinx.specs.LooksPast.{looks_past}
+use Rattle.rules.specs.LooksPast.{looks_past}
 use Rattle.rule_index.specs.Index.{looks_at_games_of, has_opponent, has_stranger}
 use Rattle.rule_index.proofs.Collected.{collected_none, collected_more, collected_all, passes_here, passes_past}
 use Rattle.rule_index.proofs.rows.team_row.Goals as goal

@@ -1,6 +1,6 @@
 use Rattle.std.proofs.Common.{arith}
-use Rattle.streams.proofs.Pieces.{Stops-writes}
-use Rattle.texts.proofs.ForCallers.{none_added, one_added, one_stopped}
+use Rattle.byte_streams.proofs.Pieces.{Stops-writes}
+use Rattle.text_lines.proofs.ForCallers.{none_added, one_added, one_stopped}
 use Rattle.schedule_texts.proofs.Sheets.{sheet_numbered}
 use Rattle.schedule_texts.proofs.faults.write_bad_lines.Goals as goal
 

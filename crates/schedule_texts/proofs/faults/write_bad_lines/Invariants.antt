@@ -1,6 +1,6 @@
 use Rattle.std.proofs.Common.{◌+◌, ◌≤◌, length}
 use Rattle.std.specs.Str.Lines.{lines}
-use Rattle.texts.proofs.ForCallers.{AddsAllBut}
+use Rattle.text_lines.proofs.ForCallers.{AddsAllBut}
 use Rattle.schedule_texts.specs.Faults.{bad_lines}
 use Rattle.schedule_texts.specs.LastSheet.{last_sheet}
 use Rattle.schedule_texts.proofs.faults.write_bad_lines.Given as goal

@@ -1,4 +1,4 @@
-use Rattle.streams.proofs.Pieces.{Adds-piece, Stops-in_pieces, Stops-writes}
+use Rattle.byte_streams.proofs.Pieces.{Adds-piece, Stops-in_pieces, Stops-writes}
 use Rattle.schedule_texts.specs.within.Faults.{count_lines}
 use Rattle.schedule_texts.proofs.faults.write_counts.Goals as goal
 

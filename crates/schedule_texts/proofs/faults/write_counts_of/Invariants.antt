@@ -1,5 +1,5 @@
-use Rattle.streams.specs.Pieces.{pieces_below}
-use Rattle.streams.specs.Writing.{Adds}
+use Rattle.byte_streams.specs.Pieces.{pieces_below}
+use Rattle.byte_streams.specs.Writing.{Adds}
 use Rattle.schedule_texts.specs.within.Faults.{count_in, count_line}
 use Rattle.schedule_texts.proofs.faults.write_counts_of.Given as goal
 

@@ -1,4 +1,4 @@
-use Rattle.streams.proofs.Pieces.{Adds-stops, Adds-then, Adds-writes, Stops-more, Stops-writes}
+use Rattle.byte_streams.proofs.Pieces.{Adds-stops, Adds-then, Adds-writes, Stops-more, Stops-writes}
 use Rattle.std.proofs.Common.{codes}
 use Rattle.std.specs.Str.Lines.{lines}
 use Rattle.schedule_texts.specs.Faults.{faults_text, game_faults, no_game_lines}

@@ -1,5 +1,5 @@
-use Rattle.streams.proofs.Pieces.{Adds-writes, Stops-more, Stops-writes}
-use Rattle.streams.specs.Pieces.{pieces_below}
+use Rattle.byte_streams.proofs.Pieces.{Adds-writes, Stops-more, Stops-writes}
+use Rattle.byte_streams.specs.Pieces.{pieces_below}
 use Rattle.schedule_texts.specs.Faults.{game_faults, pair_lines}
 use Rattle.schedule_texts.proofs.faults.write_game_faults.Goals as goal
 

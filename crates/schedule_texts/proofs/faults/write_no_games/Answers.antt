@@ -1,7 +1,7 @@
 use Rattle.std.proofs.Common.{◌≡◌, [], drop}
 use Rattle.std.proofs.lemmas.List.{drop_all}
-use Rattle.streams.proofs.Pieces.{Stops-writes}
-use Rattle.texts.proofs.ForCallers.{none_added, one_added, one_stopped, all_added}
+use Rattle.byte_streams.proofs.Pieces.{Stops-writes}
+use Rattle.text_lines.proofs.ForCallers.{none_added, one_added, one_stopped, all_added}
 use Rattle.schedule_texts.proofs.Lists.{no_games_from}
 use Rattle.schedule_texts.proofs.faults.write_no_games.Goals as goal
 

@@ -1,5 +1,5 @@
 use Rattle.std.proofs.Common.{drop}
-use Rattle.texts.proofs.ForCallers.{AddsAllBut}
+use Rattle.text_lines.proofs.ForCallers.{AddsAllBut}
 use Rattle.schedule_texts.specs.Faults.{no_game_lines}
 use Rattle.schedule_texts.proofs.faults.write_no_games.Given as goal
 

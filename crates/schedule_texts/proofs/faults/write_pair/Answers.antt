@@ -1,6 +1,6 @@
 use Rattle.std.proofs.Common.{◌≡◌, ◌||◌, eqb, false, arith}
 use Rattle.std.proofs.lemmas.Bool.Decides.{nat_tests}
-use Rattle.streams.proofs.Pieces.{Adds-writes, Stops-more, Stops-writes}
+use Rattle.byte_streams.proofs.Pieces.{Adds-writes, Stops-more, Stops-writes}
 use Rattle.schedule_texts.specs.Faults.{times_words}
 use Rattle.schedule_texts.proofs.faults.write_pair.Goals as goal
 

@@ -1,5 +1,5 @@
 use Rattle.std.proofs.Common.{◌≡◌, ◌++◌, length}
-use Rattle.texts.specs.Words.{words_of}
+use Rattle.text_lines.specs.Words.{words_of}
 use Rattle.schedule_texts.specs.ScheduleText.{games_of_words}
 use Rattle.schedule_texts.proofs.schedule_text.push_words.Given as goal
 

@@ -1,5 +1,5 @@
 use Rattle.std.proofs.Common.{◌+◌, inl, inr, refl, subst, arith, rules}
-use Rattle.search.specs.declared.gates.Progress.{Progress}
+use Rattle.draws.specs.declared.gates.Progress.{Progress}
 use Rattle.search.specs.within.Steps.{IsReported}
 use Rattle.search.proofs.Hearing.{counts_next, heard_next, heard_none, hears_full}
 use Rattle.search.proofs.Reporting.{but_due, but_end, but_more, but_none}

@@ -1,6 +1,6 @@
 use Rattle.std.proofs.Common.{◌≡◌, ◌+◌, refl, sym, ◌∙◌, ap, subst, arith}
 use Rattle.league.specs.League.{teams}
-use Rattle.search.specs.Draws.{AreRoundsOf}
+use Rattle.draws.specs.Draws.{AreRoundsOf}
 use Rattle.annealing.specs.declared.boards.Boards.{Boards}
 use Rattle.annealing.specs.Legs.{IsFrom}
 use Rattle.annealing.proofs.Ends.{IsGoing-more}

@@ -2,7 +2,7 @@ use Rattle.std.proofs.Common.{◌≡◌, ℕ, ◌<◌, length, slice_get, Some}
 use Rattle.std.specs.Prelude.{slice_index}
 use Rattle.league.specs.Limits.{max_rules}
 use Rattle.league.specs.declared.rule.Rule.{Rule}
-use Rattle.robinx.specs.Deviations.{deviation}
+use Rattle.rules.specs.Deviations.{deviation}
 use Rattle.costs.proofs.kept_deviations.KeptDeviations.learn.Given as goal
 
 abbrev pub invariant-loop-i : goal.invariant-loop-i

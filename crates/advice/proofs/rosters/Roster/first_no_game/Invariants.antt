@@ -1,9 +1,0 @@
--- The items that are left decide.
-use Rattle.std.proofs.Common.{◌≡◌, drop}
-use Rattle.serde_json.specs.View.{items_view}
-use Rattle.advice.specs.Rosters.{first_no_game}
-use Rattle.advice.proofs.rosters.Roster.first_no_game.Given as goal
-
-abbrev pub invariant-loop-item : goal.invariant-loop-item
-invariant-loop-item l =
-    first_no_game l.self (items_view (drop l.item-index l.items)) ≡ first_no_game l.self (items_view l.items)

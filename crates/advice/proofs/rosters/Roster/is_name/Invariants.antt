@@ -1,9 +1,0 @@
--- The teams that are left decide.
-use Rattle.std.proofs.Common.{◌≡◌, drop}
-use Rattle.serde_json.specs.View.{items_view}
-use Rattle.advice.specs.Rosters.{is_name, names_of}
-use Rattle.advice.proofs.rosters.Roster.is_name.Given as goal
-
-abbrev pub invariant-loop-other : goal.invariant-loop-other
-invariant-loop-other l =
-    is_name (names_of (items_view (drop l.other-index l.other-items))) l.name ≡ is_name (names_of (items_view l.other-items)) l.name

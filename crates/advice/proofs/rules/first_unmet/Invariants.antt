@@ -1,8 +1,0 @@
--- The needs that are left decide.
-use Rattle.std.proofs.Common.{◌≡◌, drop}
-use Rattle.serde_json.specs.View.{view}
-use Rattle.advice.specs.Rules.{first_unmet}
-use Rattle.advice.proofs.rules.first_unmet.Given as goal
-
-abbrev pub invariant-loop-need : goal.invariant-loop-need
-invariant-loop-need l = first_unmet l.roster (view l.rule) (drop l.need-index l.needs) ≡ first_unmet l.roster (view l.rule) l.needs

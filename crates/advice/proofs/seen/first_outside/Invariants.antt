@@ -1,9 +1,0 @@
--- The items that are left decide.
-use Rattle.std.proofs.Common.{◌≡◌, drop}
-use Rattle.serde_json.specs.View.{items_view}
-use Rattle.advice.specs.Seen.{first_outside}
-use Rattle.advice.proofs.seen.first_outside.Given as goal
-
-abbrev pub invariant-loop-item : goal.invariant-loop-item
-invariant-loop-item l =
-    first_outside l.most (items_view (drop l.item-index l.items)) ≡ first_outside l.most (items_view l.items)

@@ -1,0 +1,12 @@
+mod Ways
+mod Visits
+mod Rows
+mod Entries
+mod Relaxed
+mod Paid
+mod Seasons
+mod Evaluated
+mod Layers
+mod DiscountSums
+mod Opponents
+mod WholeLeague

@@ -1,0 +1,4 @@
+pub mod Entries
+pub mod Lengths
+pub mod Prices
+pub mod Tables

@@ -1,7 +1,0 @@
-use Rattle.std.proofs.Common.{◌≡◌, ◌++◌}
-use Rattle.breaches.specs.Breaches.{breaches_below}
-use Rattle.breaches.specs.within.Terms.{breach_in}
-use Rattle.breaches.proofs.list.push_row.Given as goal
-
-abbrev pub invariant-loop-column : goal.invariant-loop-column
-invariant-loop-column l = l.list.items ≡ l.initial.list.items ++ breaches_below l.column (breach_in l.schedule l.body l.row)

@@ -1,8 +1,0 @@
-use Rattle.streams.specs.Pieces.{pieces_below}
-use Rattle.streams.specs.Writing.{Adds}
-use Rattle.breaches.specs.BreachText.{named_cell}
-use Rattle.breaches.proofs.made_of.write_row.Given as goal
-
-abbrev pub invariant-loop-round : goal.invariant-loop-round
-invariant-loop-round g l =
-    Adds g.W.Sink.held g.W.Sink.tally l.initial.out l.out (pieces_below (named_cell l.schedule l.body l.place l.team) l.round)

@@ -1,7 +1,0 @@
-use Rattle.std.proofs.Common.{◌≡◌, ◌≤◌}
-use Rattle.league.specs.Sums.{count_where}
-use Rattle.breaches.specs.Cells.{names_cell}
-use Rattle.breaches.proofs.place_counts.count_in_round.Given as goal
-
-abbrev pub invariant-loop-team : goal.invariant-loop-team
-invariant-loop-team l = (l.count ≡ count_where l.team (λ t. names_cell l.schedule l.body l.place t l.round)) × (l.count ≤ l.team)

@@ -1,0 +1,5 @@
+use Rattle.std.proofs.Common.{rules}
+use Rattle.byte_streams.proofs.memory_sink.MemorySink.held.Goals as goal
+
+pub returns : goal.returns
+returns c = search rules

@@ -1,0 +1,32 @@
+//! The tests by subject, and what they share.
+
+mod arguments;
+mod checks;
+mod circle;
+mod closings;
+mod ends;
+mod followed_files;
+mod formatted_reports;
+mod improvements;
+mod judged_schedules;
+mod labelled_reports;
+mod largest;
+mod least_hard;
+mod memory_disk;
+mod moved;
+mod moved_reports;
+mod plays;
+mod progress_lines;
+mod read_back;
+mod ruled_pages;
+mod samples;
+mod script_lines;
+mod searches;
+mod second_format;
+mod session;
+mod starts;
+mod tables;
+mod text_beginnings;
+mod told;
+mod worked;
+mod wrong_numbers;

@@ -1,6 +1,0 @@
-use Rattle.std.proofs.Common.{◌≡◌}
-use Rattle.command_line.specs.Beginnings.{with_numbers}
-use Rattle.command_line.proofs.beginning.with_numbers.Given as goal
-
-abbrev pub invariant-loop-place : goal.invariant-loop-place
-invariant-loop-place l = l.all ≡ with_numbers l.fn.rounds l.fn.first l.place

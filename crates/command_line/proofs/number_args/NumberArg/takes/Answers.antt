@@ -1,5 +1,0 @@
-use Rattle.command_line.proofs.WrongNumbers.{by_test}
-use Rattle.command_line.proofs.number_args.NumberArg.takes.Goals as goal
-
-pub returns : goal.returns
-returns c = by_test c.is_number_in.result c.args.self.now.least c.args.self.now.most c.args.word.now c.is_number_in.ensures

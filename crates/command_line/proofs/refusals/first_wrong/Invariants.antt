@@ -1,6 +1,0 @@
-use Rattle.std.proofs.Common.{◌≡◌, drop, map}
-use Rattle.command_line.specs.within.Refusals.{first_wrong}
-use Rattle.command_line.proofs.refusals.first_wrong.Given as goal
-
-abbrev pub invariant-loop-text : goal.invariant-loop-text
-invariant-loop-text l = first_wrong (map (λ text. text.now) l.texts) ≡ first_wrong (drop l.text-index (map (λ text. text.now) l.texts))

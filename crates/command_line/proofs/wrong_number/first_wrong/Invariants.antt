@@ -1,9 +1,0 @@
-use Rattle.std.proofs.Common.{◌≡◌, None, drop, map, option_map, string_bytes}
-use Rattle.command_line.specs.within.CommandLine.{form_of}
-use Rattle.command_line.specs.within.WrongNumbers.{wrong_from}
-use Rattle.command_line.proofs.wrong_number.first_wrong.Given as goal
-
--- the words that are left go on from the option that waits
-abbrev pub invariant-loop-word : goal.invariant-loop-word
-invariant-loop-word l = wrong_from l.command None (map string_bytes l.words)
-    ≡ wrong_from l.command (option_map form_of l.waiting) (drop l.word-index (map string_bytes l.words))

@@ -1,4 +1,0 @@
-pub mod Files
-pub mod Beginnings
-pub mod CommandLine
-pub mod within

@@ -1,0 +1,15 @@
+use Rattle.std.proofs.Common.{arith}
+use Rattle.byte_streams.proofs.Pieces.{Adds-delivers, Stops-delivers}
+use Rattle.text_lines.proofs.ForCallers.{prefix_at}
+use Rattle.commands.proofs.progress.TerminalLine.clear.Goals as goal
+
+pub returns-in_err-write_clear-clause-prefix : goal.returns-in_err-write_clear-clause-prefix
+returns-in_err-write_clear-clause-prefix g c =
+    prefix_at g.W.Sink.held _ _ _ _ _
+    (Stops-delivers c.new-out.ensures c.from_residual.ensures.0 c.in_err-write_clear.ensures.err).prefix (grind arith)
+
+pub returns-clause-prefix : goal.returns-clause-prefix
+returns-clause-prefix g c =
+    prefix_at g.W.Sink.held _ _ _ _ _
+    (Adds-delivers c.new-out.ensures c.in_ok-write_clear.ensures.ok c.flush.ensures.writes c.flush.ensures.waiting).prefix
+    (grind arith)

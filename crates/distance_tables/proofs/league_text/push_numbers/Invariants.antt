@@ -1,9 +1,0 @@
-use Rattle.std.proofs.Common.{◌≡◌, ◌++◌, length, false}
-use Rattle.distance_tables.specs.LeagueText.{numbers_text}
-use Rattle.distance_tables.proofs.league_text.push_numbers.Given as goal
-
-abbrev pub invariant-loop-rest : goal.invariant-loop-rest
-invariant-loop-rest l = l.initial.text.items ++ numbers_text false l.numbers ≡ l.text.items ++ numbers_text l.later l.rest
-
-abbrev pub decreases-loop-rest : goal.decreases-loop-rest
-decreases-loop-rest l = length l.rest

@@ -1,8 +1,0 @@
-use Rattle.std.proofs.Common.{◌≡◌, map}
-use Rattle.std.specs.List.{range_with_len}
-use Rattle.distance_tables.specs.Sides.{leveled_row}
-use Rattle.distance_tables.specs.within.Views.{number_rows, rows}
-use Rattle.distance_tables.proofs.sides.leveled.Given as goal
-
-abbrev pub invariant-loop-a : goal.invariant-loop-a
-invariant-loop-a l = number_rows l.distances.items ≡ map (leveled_row l.choice l.teams (rows l.table)) (range_with_len 0 l.a)

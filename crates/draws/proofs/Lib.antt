@@ -1,0 +1,3 @@
+pub mod EachRound
+pub mod Reporting
+pub mod ForCallers

@@ -1,8 +1,0 @@
-use Rattle.std.proofs.Common.{◌≡◌}
-use Rattle.json_reports.specs.Parts.{parts_below}
-use Rattle.json_reports.specs.within.Parts.{seen}
-use Rattle.json_reports.specs.Rules.{named_in}
-use Rattle.json_reports.proofs.breach_values.games_value.Given as goal
-
-abbrev pub invariant-loop-round : goal.invariant-loop-round
-invariant-loop-round l = seen l.games.items ≡ parts_below (named_in l.schedule l.body l.place) l.round

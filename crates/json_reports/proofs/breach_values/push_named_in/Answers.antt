@@ -1,8 +1,0 @@
-use Rattle.json_reports.specs.Rules.{named_at}
-use Rattle.json_reports.proofs.Lists.{part_added}
-use Rattle.json_reports.proofs.breach_values.push_named_in.Goals as goal
-
-pub loop-team-preserved : goal.loop-team-preserved
-loop-team-preserved c =
-    part_added _ _ _ (named_at c.args.schedule.now c.args.body.now c.args.at.0 c.args.at.1) c.loop-team.team c.loop-team.invariant
-    (c.in_ok-push_named_at.ensures)

@@ -1,8 +1,0 @@
-use Rattle.std.proofs.Common.{◌≡◌}
-use Rattle.json_reports.specs.Labels.{round_text_at}
-use Rattle.json_reports.specs.Parts.{parts_below}
-use Rattle.json_reports.specs.within.Parts.{seen}
-use Rattle.json_reports.proofs.label_values.round_texts_value.Given as goal
-
-abbrev pub invariant-loop-round : goal.invariant-loop-round
-invariant-loop-round l = seen l.texts.items ≡ parts_below (round_text_at l.league) l.round

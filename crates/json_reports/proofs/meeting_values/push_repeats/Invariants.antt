@@ -1,8 +1,0 @@
-use Rattle.std.proofs.Common.{◌≡◌, ◌++◌}
-use Rattle.json_reports.specs.Parts.{parts_below}
-use Rattle.json_reports.specs.within.Parts.{seen}
-use Rattle.json_reports.specs.Sides.{repeats_after}
-use Rattle.json_reports.proofs.meeting_values.push_repeats.Given as goal
-
-abbrev pub invariant-loop-round : goal.invariant-loop-round
-invariant-loop-round l = seen l.repeats.items ≡ seen l.initial.repeats.items ++ parts_below (repeats_after l.schedule) l.round

@@ -1,8 +1,0 @@
-use Rattle.std.proofs.Common.{◌≡◌, ◌++◌}
-use Rattle.json_reports.specs.Parts.{parts_below}
-use Rattle.json_reports.specs.within.Parts.{seen}
-use Rattle.json_reports.specs.Sides.{repeat_at}
-use Rattle.json_reports.proofs.meeting_values.push_repeats_after.Given as goal
-
-abbrev pub invariant-loop-team : goal.invariant-loop-team
-invariant-loop-team l = seen l.repeats.items ≡ seen l.initial.repeats.items ++ parts_below (repeat_at l.schedule l.round) l.team

@@ -1,9 +1,0 @@
-use Rattle.std.proofs.Common.{◌≡◌}
-use Rattle.json_reports.specs.Parts.{parts_below}
-use Rattle.json_reports.specs.within.Parts.{seen}
-use Rattle.json_reports.specs.Rules.{rule_at}
-use Rattle.std.specs.Prelude.{slice_get}
-use Rattle.json_reports.proofs.rule_values.rules_value.Given as goal
-
-abbrev pub invariant-loop-i : goal.invariant-loop-i
-invariant-loop-i l = seen l.rules.items ≡ parts_below (λ i. rule_at l.schedule i (slice_get l.league.rules i)) l.i

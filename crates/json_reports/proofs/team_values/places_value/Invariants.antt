@@ -1,8 +1,0 @@
-use Rattle.std.proofs.Common.{◌≡◌, [], ◌∷◌}
-use Rattle.json_reports.specs.Parts.{counted, parts_below}
-use Rattle.json_reports.specs.within.Parts.{seen}
-use Rattle.json_reports.specs.Rounds.{place_of}
-use Rattle.json_reports.proofs.team_values.places_value.Given as goal
-
-abbrev pub invariant-loop-round : goal.invariant-loop-round
-invariant-loop-round l = seen l.places.items ≡ parts_below (λ round. counted (place_of l.schedule l.team round) ∷ []) l.round

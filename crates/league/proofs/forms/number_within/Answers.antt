@@ -1,5 +1,0 @@
-use Rattle.std.proofs.Common.{rules}
-use Rattle.league.proofs.forms.number_within.Goals as goal
-
-pub returns : goal.returns
-returns c = search rules

@@ -1,0 +1,11 @@
+-- The items that are left decide.
+use Rattle.std.proofs.Common.{◌≡◌, drop, is_some}
+use Rattle.serde_json.specs.View.{items_view}
+use Rattle.league_json.specs.Json.{all_items}
+use Rattle.league_json.specs.RuleMembers.{pairing_from}
+use Rattle.league_hints.proofs.forms.are_games.Given as goal
+
+abbrev pub invariant-loop-item : goal.invariant-loop-item
+invariant-loop-item l =
+    is_some (all_items (pairing_from l.roster) (items_view (drop l.item-index l.items)))
+    ≡ is_some (all_items (pairing_from l.roster) (items_view l.items))

@@ -1,0 +1,10 @@
+pub mod Formats
+pub mod Json
+pub mod Members
+pub mod LeagueMembers
+pub mod LabelMembers
+pub mod Rosters
+pub mod RuleMembers
+pub mod RuleClasses
+pub mod League
+pub mod within

@@ -1,0 +1,22 @@
+//! The command line of the program `ttp`, which clap reads.
+#![tactic(auto)]
+
+mod beginning;
+mod file_clash;
+mod files;
+mod help;
+mod job;
+mod league_args;
+mod number_args;
+mod refusals;
+mod report_args;
+mod request;
+mod text_args;
+mod wrong_number;
+
+pub use beginning::BeginningWords;
+pub use choices::{CsvForm, Format, SearchPlan, Separator, Symmetry};
+pub use file_clash::{FileRole, SameFile};
+pub use files::FileWords;
+pub use job::{Job, args};
+pub use request::Request;

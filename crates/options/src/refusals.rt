@@ -1,0 +1,175 @@
+//! Words that clap takes and the program doesn't, and the errors that tell so in clap's form.
+
+ghost use Rattle.std.specs.Prelude.{◌≡◌, [], ◌∷◌, IfOk, map};
+ghost use Rattle.clap.specs.Words.{found_of, kind_of, rows_of};
+ghost use Rattle.clap.specs.Kinds.{HasKind};
+ghost use Rattle.options.specs.within.Refusals.{first_wrong, wrong_game};
+
+use crate::beginning::game_of_text;
+use crate::file_clash::output_message;
+use crate::job::command_named;
+use crate::report_args::format_named;
+use crate::wrong_number::{WrongNumber, cause_of};
+use choices::Format;
+use clap::error::ErrorKind;
+use clap::{ArgMatches, Error};
+use std::alloc::{AllocError, Global};
+
+/// Why words are refused that clap takes, or that memory ran out.
+#[derive(Clone, Copy, Debug, PartialEq, Eq)]
+pub(crate) enum Refusal {
+    /// No way to make distances symmetric has the name, no format has it, no separator has it, or what is CSV's is asked for another format.
+    Format,
+    /// Standard input would be read twice.
+    Input,
+    /// A file would be written that has to be another one.
+    Output,
+    /// No league can be called as `--name` has it.
+    Name,
+    /// The text of `--keep` is wrong.
+    Keep,
+    /// A text of `--keep-game` is wrong.
+    KeepGame,
+    /// The text of `--near` is wrong.
+    Near,
+    Memory,
+}
+
+/// The error of a refusal.
+pub(crate) fn refused(alloc: Global, matches: &ArgMatches, refusal: Refusal) -> Error
+    ensures kind { HasKind (ErrorKind.InvalidValue ∷ []) result }
+    ensures memory { refusal ≡ Refusal.Memory → kind_of result ≡ ErrorKind.OutOfMemory }
+{
+    match (refusal, matches.subcommand()) {
+        (Refusal::Memory, _) | (_, None) => Error::from(AllocError),
+        (_, Some((name, values))) => match told(alloc, name, values, refusal) {
+            Ok(error) => error,
+            Err(error) => Error::from(error),
+        },
+    }
+}
+
+fn told(
+    alloc: Global,
+    name: &str,
+    values: &ArgMatches,
+    refusal: Refusal,
+) -> Result<Error, AllocError>
+    ensures { IfOk result (λ error. kind_of error ≡ ErrorKind.InvalidValue) }
+{
+    let message = message(alloc, values, refusal)?;
+    error_of(alloc, name, ErrorKind::InvalidValue, message.as_str())
+}
+
+/// clap's error or, if clap refuses the words for a number, one of that kind that says which number is wanted.
+pub(crate) fn with_wanted(alloc: Global, words: &[String], error: Error) -> Error
+    ensures { HasKind (kind_of error ∷ []) result }
+{
+    let kind = error.kind();
+    let Some(command) = words.get(1) else {
+        return error;
+    };
+    match cause_of(kind, command.as_str(), words) {
+        Some(wrong) => match wanted(alloc, command.as_str(), kind, wrong) {
+            Ok(wanted) => wanted,
+            Err(memory) => Error::from(memory),
+        },
+        None => error,
+    }
+}
+
+fn wanted(
+    alloc: Global,
+    name: &str,
+    kind: ErrorKind,
+    wrong: WrongNumber<'_>,
+) -> Result<Error, AllocError>
+    ensures { IfOk result (λ error. kind_of error ≡ kind) }
+{
+    let message = format!(in alloc; "{wrong}")?;
+    error_of(alloc, name, kind, message.as_str())
+}
+
+/// The error of a command, in clap's form.
+fn error_of(alloc: Global, name: &str, kind: ErrorKind, message: &str) -> Result<Error, AllocError>
+    ensures { IfOk result (λ error. kind_of error ≡ kind) }
+{
+    let full_name = format!(in alloc; "ttp {name}")?;
+    let mut command = command_named(alloc, name)?.bin_name(full_name.as_str())?;
+    command.error(kind, message)
+}
+
+fn message(alloc: Global, values: &ArgMatches, refusal: Refusal) -> Result<String, AllocError> {
+    match refusal {
+        Refusal::Format => match values.get_str("symmetric") {
+            Some(name) => format!(in alloc;
+                "invalid value '{name}' for '--symmetric <BY>'\n  [possible values: mean, max]"
+            ),
+            None => format_message(alloc, values),
+        },
+        Refusal::Name => {
+            let text = values.get_str("name").unwrap_or("");
+            format!(in alloc;
+                "invalid value '{text}' for '--name <TEXT>': 1 to 80 bytes without control bytes are wanted"
+            )
+        }
+        Refusal::Keep => {
+            let text = values.get_str("keep").unwrap_or("");
+            format!(in alloc;
+                "invalid value '{text}' for '--keep <ROUNDS>': rounds from 1 as in 1-8,12 are wanted"
+            )
+        }
+        Refusal::KeepGame => {
+            let text = wrong_game(values);
+            format!(in alloc;
+                "invalid value '{text}' for '--keep-game <GAME>': two teams from 1 as in 7-5 are wanted"
+            )
+        }
+        Refusal::Near => {
+            let text = values.get_str("near").unwrap_or("");
+            format!(in alloc;
+                "invalid value '{text}' for '--near <W>': a whole number from 0 to 1000000 is wanted"
+            )
+        }
+        Refusal::Output => output_message(alloc, values),
+        _ => String::from_str(
+            alloc,
+            "standard input would be read twice: one text alone can come from there",
+        ),
+    }
+}
+
+fn format_message(alloc: Global, values: &ArgMatches) -> Result<String, AllocError> {
+    let name = values.get_str("format").unwrap_or("");
+    let separator = values.get_str("separator").unwrap_or(",");
+    match format_named(name, None, false) {
+        Some(Format::Csv(_)) => format!(in alloc;
+            "invalid value '{separator}' for '--separator <SEPARATOR>'\n  [possible values: ',', ';', tab]"
+        ),
+        Some(_) => String::from_str(alloc, "--separator and --bom want --format csv"),
+        None => format!(in alloc;
+            "invalid value '{name}' for '--format <FORMAT>'\n  [possible values: text, csv, html, names, json]"
+        ),
+    }
+}
+
+/// The first text that is no game.
+fn wrong_game<'a>(values: &ArgMatches<'a>) -> &'a str
+    ensures { result.now ≡ wrong_game (rows_of (found_of values.now)) }
+{
+    match values.get_raw("keep-game") {
+        Some(texts) => first_wrong(texts),
+        None => "",
+    }
+}
+
+fn first_wrong<'a>(texts: &[&'a str]) -> &'a str
+    ensures { result.now ≡ first_wrong (map (λ text. text.now) texts.now) }
+{
+    for text in texts {
+        if game_of_text(text).is_none() {
+            return text;
+        }
+    }
+    ""
+}

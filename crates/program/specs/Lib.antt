@@ -1,3 +1,0 @@
-pub mod Program
-pub mod LegLog
-pub mod Followed

@@ -1,7 +1,0 @@
-use Rattle.report_formats.specs.Grid.{grid_row}
-use Rattle.report_formats.proofs.Pushes.{piece_added}
-use Rattle.report_formats.proofs.grid.push_rows.Goals as goal
-
-pub loop-team-preserved : goal.loop-team-preserved
-loop-team-preserved c = piece_added _ _ _ (grid_row c.args.league.now c.args.schedule.now) c.loop-team.team c.loop-team.invariant
-    c.in_ok-push_row.ensures

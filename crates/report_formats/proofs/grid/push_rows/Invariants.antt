@@ -1,7 +1,0 @@
-use Rattle.std.proofs.Common.{◌≡◌, ◌++◌}
-use Rattle.streams.specs.Pieces.{pieces_below}
-use Rattle.report_formats.specs.Grid.{grid_row}
-use Rattle.report_formats.proofs.grid.push_rows.Given as goal
-
-abbrev pub invariant-loop-team : goal.invariant-loop-team
-invariant-loop-team l = l.page.items ≡ l.initial.page.items ++ pieces_below (grid_row l.league l.schedule) l.team

@@ -1,7 +1,0 @@
-use Rattle.report_formats.specs.MovedGames.{moved_row}
-use Rattle.report_formats.proofs.Pushes.{piece_added}
-use Rattle.report_formats.proofs.moved_games.push_moved_of.Goals as goal
-
-pub loop-away-preserved : goal.loop-away-preserved
-loop-away-preserved c = piece_added _ _ _ (moved_row c.args.league.now c.args.schedule.now c.args.home) c.loop-away.away c.loop-away.invariant
-    c.in_ok-push_moved_game.ensures

@@ -1,7 +1,0 @@
-use Rattle.std.proofs.Common.{◌≡◌, ◌++◌}
-use Rattle.streams.specs.Pieces.{pieces_below}
-use Rattle.report_formats.specs.MovedGames.{moved_row}
-use Rattle.report_formats.proofs.moved_games.push_moved_of.Given as goal
-
-abbrev pub invariant-loop-away : goal.invariant-loop-away
-invariant-loop-away l = l.page.items ≡ l.initial.page.items ++ pieces_below (moved_row l.league l.schedule l.home) l.away

@@ -1,7 +1,0 @@
-use Rattle.std.proofs.Common.{◌≡◌, ◌++◌}
-use Rattle.streams.specs.Pieces.{pieces_below}
-use Rattle.report_formats.specs.Pairings.{pairing_at}
-use Rattle.report_formats.proofs.pairings.push_pairings.Given as goal
-
-abbrev pub invariant-loop-team : goal.invariant-loop-team
-invariant-loop-team l = l.text.items ≡ l.initial.text.items ++ pieces_below (pairing_at l.dress l.league l.schedule l.round) l.team

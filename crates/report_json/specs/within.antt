@@ -1,0 +1,2 @@
+pub mod JsonReport
+pub mod Parts

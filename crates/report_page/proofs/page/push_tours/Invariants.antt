@@ -1,0 +1,7 @@
+use Rattle.std.proofs.Common.{◌≡◌, ◌++◌}
+use Rattle.byte_streams.specs.Pieces.{pieces_below}
+use Rattle.report_page.specs.Page.{tour_row}
+use Rattle.report_page.proofs.page.push_tours.Given as goal
+
+abbrev pub invariant-loop-team : goal.invariant-loop-team
+invariant-loop-team l = l.page.items ≡ l.initial.page.items ++ pieces_below (tour_row l.league l.schedule) l.team

@@ -1,0 +1,16 @@
+use Rattle.std.proofs.Common.{arith}
+use Rattle.byte_streams.proofs.Pieces.{Adds-delivers, Stops-delivers}
+use Rattle.text_lines.proofs.ForCallers.{prefix_at}
+use Rattle.report_text.proofs.report.write_report.Goals as goal
+
+pub returns-in_err-write_remarked-clause-prefix : goal.returns-in_err-write_remarked-clause-prefix
+returns-in_err-write_remarked-clause-prefix g c =
+    prefix_at g.W.Sink.held _ _ _ _ _ (Stops-delivers c.new-out.ensures c.from_residual.ensures.0
+    c.in_err-write_remarked.ensures.err).prefix
+    (grind arith)
+
+pub returns-clause-prefix : goal.returns-clause-prefix
+returns-clause-prefix g c =
+    prefix_at g.W.Sink.held _ _ _ _ _
+    (Adds-delivers c.new-out.ensures c.in_ok-write_remarked.ensures.ok c.flush.ensures.writes c.flush.ensures.waiting).prefix
+    (grind arith)

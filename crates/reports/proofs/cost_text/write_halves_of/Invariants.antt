@@ -1,7 +1,0 @@
-use Rattle.streams.specs.Pieces.{pieces_below}
-use Rattle.streams.specs.Writing.{Adds}
-use Rattle.reports.specs.within.CostText.{half_line}
-use Rattle.reports.proofs.cost_text.write_halves_of.Given as goal
-
-abbrev pub invariant-loop-low : goal.invariant-loop-low
-invariant-loop-low g l = Adds g.W.Sink.held g.W.Sink.tally l.initial.out l.out (pieces_below (half_line l.schedule l.high) l.low)

@@ -1,9 +1,0 @@
-use Rattle.streams.specs.Pieces.{pieces_below}
-use Rattle.streams.specs.Writing.{Adds}
-use Rattle.std.specs.Prelude.{slice_get}
-use Rattle.reports.specs.within.CostText.{rule_at}
-use Rattle.reports.proofs.cost_text.write_rules.Given as goal
-
-abbrev pub invariant-loop-i : goal.invariant-loop-i
-invariant-loop-i g l =
-    Adds g.W.Sink.held g.W.Sink.tally l.initial.out l.out (pieces_below (λ i. rule_at l.schedule i (slice_get l.league.rules i)) l.i)

@@ -1,7 +1,0 @@
-use Rattle.streams.specs.Pieces.{pieces_below}
-use Rattle.streams.specs.Writing.{Adds}
-use Rattle.reports.specs.within.CostText.{tour_line}
-use Rattle.reports.proofs.cost_text.write_tours.Given as goal
-
-abbrev pub invariant-loop-team : goal.invariant-loop-team
-invariant-loop-team g l = Adds g.W.Sink.held g.W.Sink.tally l.initial.out l.out (pieces_below (tour_line l.league l.schedule) l.team)

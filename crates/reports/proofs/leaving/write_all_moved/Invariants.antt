@@ -1,7 +1,0 @@
-use Rattle.streams.specs.Pieces.{pieces_below}
-use Rattle.streams.specs.Writing.{Adds}
-use Rattle.reports.specs.within.CostText.{moved_lines}
-use Rattle.reports.proofs.leaving.write_all_moved.Given as goal
-
-abbrev pub invariant-loop-home : goal.invariant-loop-home
-invariant-loop-home g l = Adds g.W.Sink.held g.W.Sink.tally l.initial.out l.out (pieces_below (moved_lines l.league l.schedule) l.home)

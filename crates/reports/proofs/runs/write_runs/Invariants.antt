@@ -1,7 +1,0 @@
-use Rattle.streams.specs.Pieces.{pieces_below}
-use Rattle.streams.specs.Writing.{Adds}
-use Rattle.reports.specs.within.CostText.{run_lines}
-use Rattle.reports.proofs.runs.write_runs.Given as goal
-
-abbrev pub invariant-loop-team : goal.invariant-loop-team
-invariant-loop-team g l = Adds g.W.Sink.held g.W.Sink.tally l.initial.out l.out (pieces_below (run_lines l.schedule l.at_most) l.team)

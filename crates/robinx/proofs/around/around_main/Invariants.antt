@@ -1,5 +1,0 @@
-use Rattle.robinx.proofs.unaltered.AroundMain.{HasAround}
-use Rattle.robinx.proofs.around.around_main.Given as goal
-
-abbrev pub invariant-loop-team : goal.invariant-loop-team
-invariant-loop-team l = HasAround l.schedule l.fn.main l.rounds l.initial.team-iterator l.team-iterator l.around

@@ -1,5 +1,0 @@
-use Rattle.robinx.proofs.unaltered.AroundOwn.{MeetsNone}
-use Rattle.robinx.proofs.around.is_guest.Given as goal
-
-abbrev pub invariant-loop-round : goal.invariant-loop-round
-invariant-loop-round l = MeetsNone l.schedule l.main l.fn.rounds l.team l.round-iterator

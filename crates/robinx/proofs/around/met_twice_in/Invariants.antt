@@ -1,5 +1,0 @@
-use Rattle.robinx.proofs.rows.MetPairs.{HasMetTwice}
-use Rattle.robinx.proofs.around.met_twice_in.Given as goal
-
-abbrev pub invariant-loop-round : goal.invariant-loop-round
-invariant-loop-round l = HasMetTwice l.schedule l.team l.fn.rounds l.round-iterator l.once l.twice

@@ -1,8 +1,0 @@
-use Rattle.std.proofs.Common.{◌∙◌}
-use Rattle.robinx.proofs.counted.CountedRounds.{breaks_in_slots}
-use Rattle.robinx.proofs.break_rules.breaks.Goals as goal
-
-pub returns-clause-value : goal.returns-clause-value
-returns-clause-value c =
-    c.breaks_from.ensures.value ∙
-    breaks_in_slots c.args.schedule.now c.args.side c.args.team _ c.args.slots c.rounds_before.ensures.members

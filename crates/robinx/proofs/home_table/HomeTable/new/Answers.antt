@@ -1,5 +1,0 @@
-use Rattle.robinx.proofs.rows.HomeTables.{new_table}
-use Rattle.robinx.proofs.home_table.HomeTable.new.Goals as goal
-
-pub returns : goal.returns
-returns c = new_table _ c.empty.ensures.value

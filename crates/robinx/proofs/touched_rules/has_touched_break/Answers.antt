@@ -1,9 +1,0 @@
-use Rattle.std.proofs.Common.{◌∙◌}
-use Rattle.league.specs.Sets.{has}
-use Rattle.robinx.specs.Touches.{has_touched_slot}
-use Rattle.robinx.proofs.walks.Searches.{touched_break}
-use Rattle.robinx.proofs.touched_rules.has_touched_break.Goals as goal
-
-pub returns : goal.returns
-unfolding has_touched_slot
-returns c = c.intersects.ensures ∙ touched_break c.args.slots _ (has c.args.touched) c.with_next_below.ensures.members

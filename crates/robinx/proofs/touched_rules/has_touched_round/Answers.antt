@@ -1,7 +1,0 @@
-use Rattle.std.proofs.Common.{◌∙◌}
-use Rattle.league.specs.Sets.{has}
-use Rattle.robinx.proofs.walks.Searches.{touched_round}
-use Rattle.robinx.proofs.touched_rules.has_touched_round.Goals as goal
-
-pub returns : goal.returns
-returns c = c.intersects.ensures ∙ touched_round _ (has c.args.touched) c.below.ensures.members

@@ -1,5 +1,0 @@
-use Rattle.robinx.proofs.rows.FullWindows.{HasFull}
-use Rattle.robinx.proofs.windows.full_windows.Given as goal
-
-abbrev pub invariant-loop : goal.invariant-loop
-invariant-loop l = HasFull l.fn.set l.fn.starts l.counter l.full l.nearly l.next

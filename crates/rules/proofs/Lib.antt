@@ -1,0 +1,7 @@
+pub mod walks
+mod rows
+mod counted
+mod unaltered
+mod balances
+mod limits
+pub mod ForCallers

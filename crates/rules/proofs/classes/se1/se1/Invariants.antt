@@ -1,0 +1,12 @@
+use Rattle.std.proofs.Common.{◌&&◌}
+use Rattle.league.specs.Sets.{has}
+use Rattle.league.specs.Sums.{sum_where}
+use Rattle.league.proofs.ForCallers.{IsSumWithout}
+use Rattle.rules.specs.Deviations.{over, rounds_between}
+use Rattle.rules.specs.within.Walked.{counts_pair}
+use Rattle.rules.proofs.classes.se1.se1.Given as goal
+
+abbrev pub invariant-loop-team : goal.invariant-loop-team
+invariant-loop-team l =
+    IsSumWithout l.schedule.teams l.fn.teams l.team-iterator l.total 400000
+    (λ t. sum_where l.schedule.teams (λ p. has l.teams p && counts_pair l.teams t p) (λ p. over l.least (rounds_between l.schedule p t)))

@@ -1,0 +1,8 @@
+use Rattle.std.proofs.Common.{◌≡◌, ◌||◌, false, take}
+use Rattle.std.specs.List.{list_any}
+use Rattle.league.specs.Sets.{has}
+use Rattle.league.specs.declared.rule.Pairing.{Pairing}
+use Rattle.rules.proofs.looked_past.has_game_of.Given as goal
+
+abbrev pub invariant-loop-i : goal.invariant-loop-i
+invariant-loop-i l = list_any (λ (game : Pairing). has l.teams game.home || has l.teams game.away) (take l.i l.games) ≡ false

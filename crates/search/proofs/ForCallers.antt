@@ -1,3 +1,0 @@
--- Lemmas for crates that stand on this one.
--- steps that were reported add up
-pub use Rattle.search.proofs.Reporting.{reported_none, reported_more}

@@ -1,5 +1,0 @@
-use Rattle.std.proofs.Common.{rules}
-use Rattle.streams.proofs.memory_sink.MemorySink.tally.Goals as goal
-
-pub returns : goal.returns
-returns c = search rules

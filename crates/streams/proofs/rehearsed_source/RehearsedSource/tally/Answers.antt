@@ -1,5 +1,0 @@
-use Rattle.std.proofs.Common.{rules}
-use Rattle.streams.proofs.rehearsed_source.RehearsedSource.tally.Goals as goal
-
-pub returns : goal.returns
-returns g c = search rules

@@ -1,0 +1,7 @@
+pub mod Words
+pub mod Number
+pub mod Input
+pub mod Pieces
+pub mod Lines
+pub mod Classes
+pub mod Sheet

@@ -1,8 +1,0 @@
-use Rattle.std.proofs.Common.{drop}
-use Rattle.texts.proofs.Parts.{AddsAllBut}
-use Rattle.texts.specs.Pieces.{text_of_pieces}
-use Rattle.texts.proofs.pieces.write_pieces.Given as goal
-
-abbrev pub invariant-loop-piece : goal.invariant-loop-piece
-invariant-loop-piece g l =
-    AddsAllBut g.W.Sink.held g.W.Sink.tally l.initial.out l.out (text_of_pieces l.pieces) (text_of_pieces (drop l.piece-index l.pieces))

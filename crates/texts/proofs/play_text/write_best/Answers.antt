@@ -1,5 +1,0 @@
-use Rattle.std.proofs.Common.{rules}
-use Rattle.texts.proofs.play_text.write_best.Goals as goal
-
-pub returns : goal.returns
-returns g c = search rules

@@ -1,5 +1,0 @@
-use Rattle.std.proofs.Common.{rules}
-use Rattle.texts.proofs.progress_text.write_clear.Goals as goal
-
-pub returns : goal.returns
-returns g c = search rules

@@ -1,8 +1,0 @@
-use Rattle.std.proofs.Common.{rules}
-use Rattle.texts.proofs.sheets.place_letter.Goals as goal
-
-pub returns-then-home : goal.returns-then-home
-returns-then-home c = search rules
-
-pub returns-else-home : goal.returns-else-home
-returns-else-home c = search rules

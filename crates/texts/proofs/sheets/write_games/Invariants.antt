@@ -1,7 +1,0 @@
-use Rattle.streams.specs.Pieces.{pieces_below}
-use Rattle.streams.specs.Writing.{Adds}
-use Rattle.texts.specs.Sheet.{game_text}
-use Rattle.texts.proofs.sheets.write_games.Given as goal
-
-abbrev pub invariant-loop-team : goal.invariant-loop-team
-invariant-loop-team g l = Adds g.W.Sink.held g.W.Sink.tally l.initial.out l.out (pieces_below (game_text l.schedule l.round) l.team)

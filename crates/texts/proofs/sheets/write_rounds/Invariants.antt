@@ -1,7 +1,0 @@
-use Rattle.streams.specs.Pieces.{pieces_below}
-use Rattle.streams.specs.Writing.{Adds}
-use Rattle.texts.specs.Sheet.{round_line}
-use Rattle.texts.proofs.sheets.write_rounds.Given as goal
-
-abbrev pub invariant-loop-round : goal.invariant-loop-round
-invariant-loop-round g l = Adds g.W.Sink.held g.W.Sink.tally l.initial.out l.out (pieces_below (round_line l.schedule) l.round)
