@@ -2,3 +2,4 @@ pub mod Streaks
 pub mod Parts
 pub mod CostLines
 pub mod Figures
+mod Totals
