@@ -37,11 +37,7 @@ pub fn bound_from<R: Source, W: Sink>(
 }
 
 /// As [`bound`], of a league's text that was read.
-pub fn bound_on<W: Sink>(
-    alloc: Global,
-    league: &[u8],
-    sink: &mut W,
-) -> Result<(), ProgramFault>
+pub fn bound_on<W: Sink>(alloc: Global, league: &[u8], sink: &mut W) -> Result<(), ProgramFault>
     ensures { EndsOn W.held W.tally (AnswersBound league.now) sink.old sink.new result }
 {
     let league = begun_league(alloc, league, None)?;
