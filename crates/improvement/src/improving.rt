@@ -233,11 +233,11 @@ fn report_leg<'w, T: Threads + Wait + Sync, G: Gate + Sync, W: Sink, V: Watcher<
 {
     let run_context = setting.run_context;
     let RunningLeg { assignment, state } = leg;
-    let now = state.outcome(run_context.rt)?;
+    let annealed = state.outcome(run_context.rt)?;
     run_context.gate.ended(run_context.rt);
-    report(setting, assignment, &now, reported, lent, out, watcher)?;
+    report(setting, assignment, &annealed, reported, lent, out, watcher)?;
     run_context.gate.begun(run_context.rt, 0);
-    let Annealed { chain, end } = now;
+    let Annealed { chain, end } = annealed;
     let number = assignment.chain;
     line.go_on(assignment, end, Entrant { number, chain })?;
     Ok(())
@@ -248,7 +248,7 @@ fn report_leg<'w, T: Threads + Wait + Sync, G: Gate + Sync, W: Sink, V: Watcher<
 fn report<'w, T: Threads + Wait + Sync, G: Gate + Sync, W: Sink, V: Watcher<W>>(
     setting: Setting<'_, T, G>,
     assignment: Assignment,
-    now: &Annealed,
+    annealed: &Annealed,
     reported: &mut Reported,
     lent: &Snapshot<BufferedSink<'w, W>>,
     out: &mut BufferedSink<'w, W>,
@@ -258,15 +258,15 @@ fn report<'w, T: Threads + Wait + Sync, G: Gate + Sync, W: Sink, V: Watcher<W>>(
     requires none { waiting_in lent.now.value ≡ [] }
     requires few { reported.old.legs + 1 < 2 ^ 64 }
     requires told { (legs : List LegRun) × HasTold W.held W.tally setting.start.now setting.plan lent.now.value out.old legs reported.old
-        × CanEnd setting.start.now legs assignment now.now }
+        × CanEnd setting.start.now legs assignment annealed.now }
     ensures { (first : BufferedSink W) (legs : List LegRun) →
         HasTold W.held W.tally setting.entry.start.now setting.entry.plan first out.old legs reported.old →
-        CanEnd setting.entry.start.now legs assignment now.now →
+        CanEnd setting.entry.start.now legs assignment annealed.now →
         EndsBy W.held W.tally setting.entry.start.now setting.entry.plan first out.new
-        (λ done. HasTold W.held W.tally setting.entry.start.now setting.entry.plan first out.new (run_of assignment now.now ∷ legs)
+        (λ done. HasTold W.held W.tally setting.entry.start.now setting.entry.plan first out.new (run_of assignment annealed.now ∷ legs)
         reported.new) result }
 {
-    let board = &now.chain.board;
+    let board = &annealed.chain.board;
     write_leg(out, reported.least, board)?;
     let improves = reported.offer(setting.run_context.alloc, assignment.chain, board)?;
     let written = Written {
@@ -279,7 +279,7 @@ fn report<'w, T: Threads + Wait + Sync, G: Gate + Sync, W: Sink, V: Watcher<W>>(
         number: reported.legs,
         chain: assignment.chain,
         leg: assignment.leg,
-        end: now.end,
+        end: annealed.end,
     };
     watcher.leg_ended(
         LegEnded::of(setting.unit, ended, reported.least),

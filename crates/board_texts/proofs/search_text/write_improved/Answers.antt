@@ -1,4 +1,3 @@
-use Rattle.board_texts.specs.PlayText.{best_line}
 use Rattle.board_texts.specs.SearchText.{improved_text, total_line}
 use Rattle.fixture_board.specs.History.{best_of}
 use Rattle.byte_streams.proofs.Pieces.{Adds-writes, Stops-more, Stops-writes}
@@ -14,7 +13,7 @@ returns-in_err-write_outcome g c =
     rw c.if-history.false (Stops-writes c.from_residual.ensures.0
     (Stops-more (total_line (best_of b.league b.history)) c.in_err-write_outcome.ensures.err))
 
-pub returns-else-history : goal.returns-else-history
+pub returns-in_ok-write_outcome : goal.returns-in_ok-write_outcome
 unfolding improved_text
-returns-else-history g c =
+returns-in_ok-write_outcome g c =
     rw (c.if-history.false, ← c.best.ensures.value) (Adds-writes c.in_ok-write_outcome.ensures.ok c.write_total.ensures)

@@ -3,4 +3,4 @@ use Rattle.improvement.proofs.UnderWay.{reported_none}
 use Rattle.improvement.proofs.reported.Reported.none.Goals as goal
 
 pub returns : goal.returns
-returns c = reported_none c.args.start.now c.returns.result c.in_ok-anew.ensures refl refl c.new.ensures
+returns c = reported_none c.args.start.now _ c.in_ok-anew.ensures refl refl c.new.ensures
