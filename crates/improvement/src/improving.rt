@@ -27,7 +27,6 @@ use crate::watcher::{LegEnded, Watcher, Written};
 use annealing::{Annealed, measure};
 use board_texts::write_improved;
 use byte_streams::{BufferedSink, Sink, WriteFault};
-use choices::MAX_WORKERS;
 use draws::{Gate, RunContext};
 use fixture_board::{Best, Board};
 use league::League;
@@ -51,10 +50,7 @@ pub fn improve<T: Threads + Wait + Sync, G: Gate + Sync, W: Sink, V: Watcher<W> 
     requires most { plan.effort ≤ max_effort }
     ensures { Improves W.held W.tally league plan sink.old sink.new result }
 {
-    if plan.workers < 1 || MAX_WORKERS < plan.workers {
-        return Err(ImproveFault::Workers);
-    }
-    let start = start_board(run_context.alloc, league, plan.effort)?;
+    let start = start_board(run_context.alloc, league, plan)?;
     improve_from(run_context, &start, plan, sink, watcher)
 }
 
