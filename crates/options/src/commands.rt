@@ -3,7 +3,7 @@
 ghost use Rattle.std.specs.Prelude.{◌≡◌, IfOk, fold, map};
 ghost use Rattle.clap.specs.Words.{app_of};
 ghost use Rattle.options.specs.CommandLine.{app_of_command, program};
-ghost use Rattle.options.specs.within.CommandLine.{form_named, with_named};
+ghost use Rattle.options.specs.within.CommandLine.{app_of_parts, form_named, with_named};
 
 use crate::command_parts::{CommandArg, CommandParts};
 use crate::default_args::{EFFORT, FORMAT};
@@ -21,14 +21,14 @@ use crate::text_args::{
 use clap::Command;
 use std::alloc::{AllocError, Global};
 
-const START: CommandParts = CommandParts {
+static START: CommandParts = CommandParts {
     name: "start",
     about: START_ABOUT,
     after_help: START_EXAMPLE,
     args: &[CommandArg::Word(LEAGUE), CommandArg::Text(FROM)],
 };
 
-const PLAY: CommandParts = CommandParts {
+static PLAY: CommandParts = CommandParts {
     name: "play",
     about: PLAY_ABOUT,
     after_help: PLAY_LINES,
@@ -43,7 +43,7 @@ const PLAY: CommandParts = CommandParts {
     ],
 };
 
-const IMPROVE: CommandParts = CommandParts {
+static IMPROVE: CommandParts = CommandParts {
     name: "improve",
     about: IMPROVE_ABOUT,
     after_help: IMPROVE_EXAMPLE,
@@ -63,7 +63,7 @@ const IMPROVE: CommandParts = CommandParts {
     ],
 };
 
-const SEARCH: CommandParts = CommandParts {
+static SEARCH: CommandParts = CommandParts {
     name: "search",
     about: SEARCH_ABOUT,
     after_help: SEARCH_EXAMPLE,
@@ -81,7 +81,7 @@ const SEARCH: CommandParts = CommandParts {
     ],
 };
 
-const REPORT: CommandParts = CommandParts {
+static REPORT: CommandParts = CommandParts {
     name: "report",
     about: REPORT_ABOUT,
     after_help: REPORT_LINES,
@@ -96,7 +96,7 @@ const REPORT: CommandParts = CommandParts {
     ],
 };
 
-const LEAGUE_OF_TABLE: CommandParts = CommandParts {
+static LEAGUE_OF_TABLE: CommandParts = CommandParts {
     name: "league",
     about: LEAGUE_ABOUT,
     after_help: LEAGUE_EXAMPLE,
@@ -109,7 +109,7 @@ const LEAGUE_OF_TABLE: CommandParts = CommandParts {
     ],
 };
 
-const BOUND: CommandParts = CommandParts {
+static BOUND: CommandParts = CommandParts {
     name: "bound",
     about: BOUND_ABOUT,
     after_help: BOUND_EXAMPLE,
@@ -163,13 +163,19 @@ fn with_command<'a>(
 pub(crate) fn command_named<'a>(alloc: Global, name: &str) -> Result<Command<'a>, AllocError>
     ensures { IfOk result (λ c. app_of c ≡ app_of_command (form_named name.now)) }
 {
+    parts_named(name).command(alloc)
+}
+
+fn parts_named(name: &str) -> &'static CommandParts
+    ensures { app_of_parts result.now ≡ app_of_command (form_named name.now) }
+{
     match name {
-        "play" => PLAY.command(alloc),
-        "improve" => IMPROVE.command(alloc),
-        "search" => SEARCH.command(alloc),
-        "report" => REPORT.command(alloc),
-        "league" => LEAGUE_OF_TABLE.command(alloc),
-        "bound" => BOUND.command(alloc),
-        _ => START.command(alloc),
+        "play" => &PLAY,
+        "improve" => &IMPROVE,
+        "search" => &SEARCH,
+        "report" => &REPORT,
+        "league" => &LEAGUE_OF_TABLE,
+        "bound" => &BOUND,
+        _ => &START,
     }
 }

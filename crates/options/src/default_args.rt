@@ -6,6 +6,7 @@ ghost use Rattle.options.specs.CommandLine.{rule_of};
 ghost use Rattle.options.specs.within.CommandLine.{form_of_default};
 
 use crate::help::{EFFORT_HELP, FORMAT_HELP};
+use crate::report_args::TEXT;
 use clap::Arg;
 use clap::builder::ValueParser;
 use std::alloc::Global;
@@ -29,7 +30,7 @@ pub(crate) const EFFORT: DefaultArg = DefaultArg {
 pub(crate) const FORMAT: DefaultArg = DefaultArg {
     name: "format",
     value_name: "FORMAT",
-    default: "text",
+    default: TEXT,
     help: FORMAT_HELP,
 };
 

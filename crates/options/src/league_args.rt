@@ -12,6 +12,7 @@ ghost use Rattle.options.specs.within.Files.{written};
 
 use crate::files::owned;
 use crate::job::Job;
+use crate::names::Names;
 use crate::number_args::{AT_MOST, HARD_WEIGHT};
 use choices::Symmetry;
 use clap::ArgMatches;
@@ -85,12 +86,19 @@ fn choice_of(name: Option<&str>) -> Option<Option<Symmetry>>
     }
 }
 
+const MEAN: &str = "mean";
+
+const MAX: &str = "max";
+
+/// What `--symmetric` takes.
+pub(crate) const SYMMETRIES: Names = Names { all: &[MEAN, MAX] };
+
 fn symmetry_named(name: &str) -> Option<Symmetry>
     ensures { result ≡ symmetry_named name.now }
 {
     match name {
-        "mean" => Some(Symmetry::Mean),
-        "max" => Some(Symmetry::Max),
+        MEAN => Some(Symmetry::Mean),
+        MAX => Some(Symmetry::Max),
         _ => None,
     }
 }

@@ -13,6 +13,7 @@ mod help;
 mod improve_args;
 mod job;
 mod league_args;
+mod names;
 mod number_args;
 mod number_options;
 mod refusals;

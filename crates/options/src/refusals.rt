@@ -8,13 +8,14 @@ ghost use Rattle.options.specs.within.Refusals.{first_wrong, wrong_game};
 use crate::beginning::game_of_text;
 use crate::commands::command_named;
 use crate::file_clash::output_message;
+use crate::league_args::SYMMETRIES;
 use crate::number_args::NEAR_NUMBER;
 use crate::number_options::NumberOption;
-use crate::report_args::format_named;
+use crate::report_args::{FORMATS, SEPARATORS, format_named};
 use crate::wrong_number::{WrongNumber, cause_of};
 use choices::Format;
 use clap::error::ErrorKind;
-use clap::{ArgMatches, Error};
+use clap::{ArgMatches, Command, Error};
 use league::limits::MAX_TITLE;
 use sets::limits::{MAX_ROUNDS, MAX_TEAMS};
 use std::alloc::{AllocError, Global};
@@ -114,9 +115,16 @@ fn error_as(
 ) -> Result<Error, AllocError>
     ensures { IfOk result (λ error. kind_of error ≡ kind) }
 {
-    let command = command_named(alloc, name)?;
-    let mut command = command.bin_name(full_name)?;
+    let mut command = command_called(alloc, name, full_name)?;
     command.error(kind, message)
+}
+
+fn command_called<'a>(
+    alloc: Global,
+    name: &str,
+    full_name: &str,
+) -> Result<Command<'a>, AllocError> {
+    command_named(alloc, name)?.bin_name(full_name)
 }
 
 fn message(alloc: Global, values: &ArgMatches, refusal: Refusal) -> Result<String, AllocError> {
@@ -170,7 +178,7 @@ fn number_message(
 fn name_message(alloc: Global, values: &ArgMatches) -> Result<String, AllocError> {
     match values.get_str("symmetric") {
         Some(name) => format!(in alloc;
-            "invalid value '{name}' for '--symmetric <BY>'\n  [possible values: mean, max]"
+            "invalid value '{name}' for '--symmetric <BY>'\n  [possible values: {SYMMETRIES}]"
         ),
         None => format_message(alloc, values),
     }
@@ -181,11 +189,11 @@ fn format_message(alloc: Global, values: &ArgMatches) -> Result<String, AllocErr
     let separator = values.get_str("separator").unwrap_or(",");
     match format_named(name, None, false) {
         Some(Format::Csv(_)) => format!(in alloc;
-            "invalid value '{separator}' for '--separator <SEPARATOR>'\n  [possible values: ',', ';', tab]"
+            "invalid value '{separator}' for '--separator <SEPARATOR>'\n  [possible values: {SEPARATORS}]"
         ),
         Some(_) => String::from_str(alloc, "--separator and --bom want --format csv"),
         None => format!(in alloc;
-            "invalid value '{name}' for '--format <FORMAT>'\n  [possible values: text, csv, html, names, json]"
+            "invalid value '{name}' for '--format <FORMAT>'\n  [possible values: {FORMATS}]"
         ),
     }
 }

@@ -7,6 +7,7 @@ ghost use Rattle.options.specs.within.Files.{written};
 
 use crate::flag_args::BOM;
 use crate::job::Job;
+use crate::names::Names;
 use choices::{CsvForm, Format, Separator};
 use clap::ArgMatches;
 
@@ -33,11 +34,26 @@ fn format_of(values: &ArgMatches) -> Option<Format>
     }
 }
 
+pub(crate) const TEXT: &str = "text";
+
+const CSV: &str = "csv";
+
+const HTML: &str = "html";
+
+const NAMES: &str = "names";
+
+const JSON: &str = "json";
+
+/// What `--format` takes.
+pub(crate) const FORMATS: Names = Names {
+    all: &[TEXT, CSV, HTML, NAMES, JSON],
+};
+
 pub(crate) fn format_named(name: &str, separator: Option<&str>, has_mark: bool) -> Option<Format>
     ensures { result ≡ format_named name.now (written separator.entry) has_mark }
 {
     match name {
-        "csv" => {
+        CSV => {
             let separator = separator_of(separator)?;
             Some(Format::Csv(CsvForm {
                 separator,
@@ -45,10 +61,10 @@ pub(crate) fn format_named(name: &str, separator: Option<&str>, has_mark: bool) 
             }))
         }
         _ if separator.is_some() || has_mark => None,
-        "text" => Some(Format::Text),
-        "html" => Some(Format::Html),
-        "names" => Some(Format::Names),
-        "json" => Some(Format::Json),
+        TEXT => Some(Format::Text),
+        HTML => Some(Format::Html),
+        NAMES => Some(Format::Names),
+        JSON => Some(Format::Json),
         _ => None,
     }
 }
@@ -63,13 +79,24 @@ pub(crate) fn separator_of(name: Option<&str>) -> Option<Separator>
     }
 }
 
+const COMMA: &str = ",";
+
+const SEMICOLON: &str = ";";
+
+const TAB: &str = "tab";
+
+/// What `--separator` takes.
+pub(crate) const SEPARATORS: Names = Names {
+    all: &[COMMA, SEMICOLON, TAB],
+};
+
 fn separator_named(name: &str) -> Option<Separator>
     ensures { result ≡ separator_named name.now }
 {
     match name {
-        "," => Some(Separator::Comma),
-        ";" => Some(Separator::Semicolon),
-        "tab" => Some(Separator::Tab),
+        COMMA => Some(Separator::Comma),
+        SEMICOLON => Some(Separator::Semicolon),
+        TAB => Some(Separator::Tab),
         _ => None,
     }
 }
