@@ -171,9 +171,7 @@ def often_broken(bests, league):
 def agree(league, legs, lines, seed):
     """How many legs were taken again, and of how many. A difference is an error."""
     text, counts, taken, told = Text(lines), annealing.Counts(league), 0, iter(legs)
-    unit, lead, least = annealing.unit_of(counts), Entrant(0, annealing.Chain(counts)), None
-    lead.tell(0, lead.chain.hard(), lead.chain.best[0] if lead.chain.best else None)
-    bests = {}
+    unit, lead, least, bests = annealing.unit_of(counts), None, None, {}
     for number, (entrant, leg, stream, weights) in enumerate(in_line(counts), 1):
         came_to = next(told, None)
         if came_to is None:
@@ -195,7 +193,7 @@ def agree(league, legs, lines, seed):
                 text.expect([*sheet(entrant.at_best().chain), f"best {best}", improvements.END_OF_SOLUTION])
             else:
                 text.expect_schedule(best)
-        if entrant.standing < lead.standing:
+        if lead is None or entrant.standing < lead.standing:
             lead = entrant.at_best()
     if next(told, None):
         raise ValueError(f"there are more legs than {number}")
