@@ -9,7 +9,7 @@ use Rattle.league.specs.League.{LeagueData}
 use Rattle.fixture_board.specs.declared.change.Entry.{Entry}
 use Rattle.board_texts.specs.Command.{line_of}
 use Rattle.text_lines.specs.Input.{TakesLine}
-use Rattle.fixture_board.specs.Record.{Book, book}
+use Rattle.fixture_board.specs.Record.{book}
 use Rattle.fixture_board.specs.Replies.{greatest}
 use Rattle.board_texts.specs.PlayText.{IsPlayedInPart, answer_to, answers, answers_from, history_after, slack_after, played, played_from}
 use Rattle.text_lines.proofs.ForCallers.{AddsAllBut, none_added, one_added, one_stopped}

@@ -1,10 +1,11 @@
 -- The parts of a search text. Workers are numbered from 1.
-use Rattle.std.specs.Prelude.{◌≡◌, ℕ, List, [], ◌++◌, Option, Some, None, if◌then◌else◌, codes}
+use Rattle.std.specs.Prelude.{◌≡◌, ℕ, Bool, true, false, List, [], ◌++◌, Option, Some, None, if◌then◌else◌, codes}
 use Rattle.std.specs.Str.Lines.{lines}
 use Rattle.league.specs.League.{LeagueData}
 use Rattle.league.specs.Starts.{is_given}
 use Rattle.fixtures.specs.Games.{Games}
 use Rattle.tours.specs.Moved.{moved_games}
+use Rattle.fixture_board.specs.declared.best.Best.{Best}
 use Rattle.fixture_board.specs.declared.change.Entry.{Entry}
 use Rattle.fixture_board.specs.History.{best_of, best_prefix, games_of}
 use Rattle.fixture_board.specs.Replay.{under_caller_0}
@@ -57,9 +58,19 @@ least_hard_after league h (Some prefix) = []
 unfoldable pub least_hard_text : LeagueData → List Entry → List ℕ
 least_hard_text league h = least_hard_after league h (best_prefix league h)
 
--- a board that an improvement ends with: as after a search, but what is broken stands before the best version if there is none
-unfoldable pub improved_text : LeagueData → List Entry → List ℕ
-improved_text league h = board_text league h ++ least_hard_text league h ++ best_line (best_of league h)
+-- the best total, without its version
+abbrev pub total_line : Option Best → List ℕ
+total_line None = codes "best none\n"
+total_line (Some best) = numbered (codes "best ") best.total
+
+-- the sheet of the best schedule, what was moved in it and, if none was feasible, what is broken
+abbrev pub outcome_text : LeagueData → List Entry → List ℕ
+outcome_text league h = best_sheet league h ++ moved_at_best league h ++ least_hard_text league h
+
+-- what an improvement ends with, with the history that leads there and the version of it, or without both
+unfoldable pub improved_text : Bool → LeagueData → List Entry → List ℕ
+improved_text true league h = history_text h ++ outcome_text league h ++ best_line (best_of league h)
+improved_text false league h = outcome_text league h ++ total_line (best_of league h)
 
 -- a history, written and given as a script, leads to the same changes of caller 0, to the same games and the same best
 pub record PlaysBack (league : LeagueData) (room : ℕ) (h : List Entry) : Type 0 where

@@ -1,18 +1,18 @@
 //! The parts of a search text: what was asked for, what became of a worker's proposals, and the board in the end. And what an
 //! improvement ends with.
 
-ghost use Rattle.std.specs.Prelude.{◌≡◌};
+ghost use Rattle.std.specs.Prelude.{◌≡◌, true};
 ghost use Rattle.league.specs.League.{teams};
 ghost use Rattle.byte_streams.specs.Writing.{Writes};
 ghost use Rattle.fixture_board.specs.History.{best_prefix};
 ghost use Rattle.board_texts.specs.SearchText.{best_sheet, board_text, found_text, games_at_best, moved_at_best, plan_line};
-ghost use Rattle.board_texts.specs.SearchText.{improved_text, least_hard_text, worker_line};
+ghost use Rattle.board_texts.specs.SearchText.{improved_text, least_hard_text, outcome_text, total_line, worker_line};
 
 use crate::history::write_history;
 use crate::least_hard::write_least_hard;
 use crate::play_text::write_best;
 use byte_streams::{BufferedSink, Sink, WriteFault};
-use fixture_board::Board;
+use fixture_board::{Best, Board};
 use fixtures::Schedule;
 use text_lines::{Piece, write_numbered, write_pieces, write_sheet};
 use tours::moved_games;
@@ -76,18 +76,53 @@ pub fn write_found<W: Sink>(out: &mut BufferedSink<'_, W>, board: &Board) -> Res
     write_best(out, board)
 }
 
-/// Writes the board that an improvement ends with, as [`write_found`] does it. If no schedule was feasible, what is broken in
-/// the present one stands before the best version.
+/// Writes the board that an improvement ends with: the sheet of its best schedule, how many games that moves, what is broken in the
+/// present schedule if none was feasible, and the best total. With `history` that stands first, and the version behind the total.
 pub fn write_improved<W: Sink>(
+    out: &mut BufferedSink<'_, W>,
+    board: &Board,
+    history: bool,
+) -> Result<(), WriteFault>
+    ensures { Writes W.held W.tally out.old out.new result
+        (improved_text history board.now.league board.now.history) }
+{
+    if history {
+        write_with_history(out, board)
+    } else {
+        write_outcome(out, board)?;
+        write_total(out, board.best())
+    }
+}
+
+fn write_with_history<W: Sink>(
     out: &mut BufferedSink<'_, W>,
     board: &Board,
 ) -> Result<(), WriteFault>
     ensures { Writes W.held W.tally out.old out.new result
-        (improved_text board.now.league board.now.history) }
+        (improved_text true board.now.league board.now.history) }
 {
-    write_board(out, board)?;
-    write_broken(out, board)?;
+    write_history(out, board)?;
+    write_outcome(out, board)?;
     write_best(out, board)
+}
+
+/// Writes the sheet of the board's best schedule, how many games that moves and, if none was feasible, what is broken.
+fn write_outcome<W: Sink>(out: &mut BufferedSink<'_, W>, board: &Board) -> Result<(), WriteFault>
+    ensures { Writes W.held W.tally out.old out.new result
+        (outcome_text board.now.league board.now.history) }
+{
+    write_best_sheet(out, board)?;
+    write_moved(out, board)?;
+    write_broken(out, board)
+}
+
+fn write_total<W: Sink>(out: &mut BufferedSink<'_, W>, best: Option<Best>) -> Result<(), WriteFault>
+    ensures { Writes W.held W.tally out.old out.new result (total_line best) }
+{
+    match best {
+        Some(best) => write_numbered(out, b"best ", best.total),
+        None => out.write(b"best none\n"),
+    }
 }
 
 /// Writes the board's history, the sheet of its best schedule, and how many games that moves.

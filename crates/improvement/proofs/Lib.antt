@@ -1,6 +1,8 @@
 pub mod Leads
 pub mod Bests
 pub mod Solutions
+pub mod Blocks
+pub mod FreeRounds
 pub mod Lines
 pub mod UnderWay
 pub mod Ends

@@ -39,7 +39,7 @@ newest_more league h None (Some total) older same = refl
 newest_more league h (Some least) (Some total) older same =
     total_by least (best_with league h total) older (nat_lt total least) refl same
 
-newest_is : (league : LeagueData) (legs : List LegRun) → newest_total (solutions_of league legs) ≡ least_reported league legs
+pub newest_is : (league : LeagueData) (legs : List LegRun) → newest_total (solutions_of league legs) ≡ least_reported league legs
 unfolding solutions_of
 newest_is league [] = refl
 newest_is league (run ∷ before) =
@@ -222,7 +222,7 @@ last_leads league run (r ∷ before) =
 
 -- ---- the end
 
-abbrev IsWhole : LeagueData → List Entry → Type 0
+abbrev pub IsWhole : LeagueData → List Entry → Type 0
 IsWhole league h = (best : Best) → best_of league h ≡ Some best → best.at ≡ length h
 
 whole_by : (league : LeagueData) (h : List Entry) (found : Option (List Entry)) (best : Best) → as_best league found ≡ Some best →
@@ -239,7 +239,7 @@ chosen_whole : (league : LeagueData) (h l : List Entry) (c : Bool) → IsWhole l
 chosen_whole league h l true before = rewound_whole league h
 chosen_whole league h l false before = before
 
-lead_whole : (league : LeagueData) (run : LegRun) (before : List LegRun) → IsWhole league (lead_of league (run ∷ before))
+pub lead_whole : (league : LeagueData) (run : LegRun) (before : List LegRun) → IsWhole league (lead_of league (run ∷ before))
 unfolding lead_of
 lead_whole league run [] = rewound_whole league run.history
 lead_whole league run (r ∷ before) =

@@ -1,5 +1,5 @@
 -- What holds of all that an improvement writes, and of what it ends with.
-use Rattle.std.specs.Prelude.{◌≡◌, ℕ, ◌<◌, ◌≤◌, true, List, [], ◌∷◌, length, All, Option, Some, None}
+use Rattle.std.specs.Prelude.{◌≡◌, ℕ, ◌<◌, ◌≤◌, Bool, true, false, List, [], ◌∷◌, ◌++◌, length, All, Option, Some, None, codes}
 use Rattle.league.specs.League.{LeagueData, teams}
 use Rattle.fixtures.specs.Games.{Games, IsDoubleRoundRobin}
 use Rattle.league.specs.Starts.{start_of}
@@ -7,6 +7,7 @@ use Rattle.costs.specs.Costs.{cost_of, total_of}
 use Rattle.fixture_board.specs.declared.change.Entry.{Entry}
 use Rattle.fixture_board.specs.declared.best.Best.{Best}
 use Rattle.fixture_board.specs.History.{IsLegal, best_of}
+use Rattle.text_lines.specs.Lines.{counted, numbered}
 use Rattle.improvement.specs.declared.broken.Part.{Part}
 use Rattle.improvement.specs.Broken.{breaches}
 use Rattle.improvement.specs.Legs.{LegRun, least_in}
@@ -49,6 +50,20 @@ pub record IsEnd (league : LeagueData) (room : ℕ) (legs : List LegRun) (h : Li
   -- its best version is its last one, with the newest solution
   pub whole : (best : Best) → best_of league h ≡ Some best → best.at ≡ length h
   pub last : newest (solutions_of league legs) ≡ best_solution league h
+
+-- the last line with this total and, with a history, so many entries of that
+abbrev pub last_line : Bool → Option ℕ → ℕ → List ℕ
+last_line history None n = codes "best none\n"
+last_line true (Some total) n = counted (codes "best ") total ++ numbered (codes " at ") n
+last_line false (Some total) n = numbered (codes "best ") total
+
+pub record BeginsWith (front text : List ℕ) : Type 0 where
+  pub rest : List ℕ
+  pub is : text ≡ front ++ rest
+
+pub record EndsWith (end text : List ℕ) : Type 0 where
+  pub front : List ℕ
+  pub is : text ≡ front ++ end
 
 -- each double round robin of the league's teams breaks the part
 abbrev pub CannotBeKept : LeagueData → Part → Type 0

@@ -10,8 +10,6 @@ use Rattle.fixture_board.specs.declared.best.Best.{Best}
 use Rattle.choices.specs.Limits.{max_room}
 use Rattle.fixture_board.specs.History.{best_of}
 use Rattle.board_texts.specs.SearchText.{PlaysBack}
-use Rattle.annealing.specs.declared.unit.Unit.{Unit as Measure}
-use Rattle.annealing.specs.Walks.{IsUnitOf}
 use Rattle.improvement.specs.declared.plan.ImprovePlan.{ImprovePlan}
 use Rattle.improvement.specs.declared.plan.ImproveFault.{ImproveFault}
 use Rattle.improvement.specs.declared.plan.ImproveFault.TheVariants.{Workers, Memory, Write}
@@ -23,36 +21,30 @@ pub record AreAll (plan : ImprovePlan) (legs : List LegRun) : Type 0 where
   pub few : steps_in legs ≤ plan.effort
   pub all : plan.first ≡ None → steps_in legs ≡ plan.effort
 
--- The text of an improvement, of all its legs, and the best version of the history in it. Temperatures are reported by the league's unit. The
--- history fits the greatest room of a board and, given as a script in any room that it fits, leads to the same games and the same best
+-- The text of an improvement, of all its legs, and the best version of the history that leads to its end. That history, which the plan may
+-- want in the text, fits the greatest room of a board and, given as a script in any room that it fits, leads to the same games and the same best
 pub record IsImproveText (league : LeagueData) (plan : ImprovePlan) (best : Option Best) (text : List ℕ) : Type 0 where
-  pub unit : Measure
-  pub unit_is : IsUnitOf league unit
   pub legs : List LegRun
   pub are : AreLegs league (room_of plan.effort) legs
   pub all : AreAll plan legs
-  pub text_is : text ≡ improve_text league unit true legs
+  pub text_is : text ≡ improve_text league plan.history true legs
   pub best_is : best ≡ best_of league (lead_of league legs)
   pub fits : length (lead_of league legs) ≤ max_room
   pub again : (room : ℕ) → length (lead_of league legs) ≤ room → PlaysBack league room (lead_of league legs)
 
 -- what there is to write after some legs, whether or not these are all
 pub record IsTextSoFar (league : LeagueData) (plan : ImprovePlan) (text : List ℕ) : Type 0 where
-  pub unit : Measure
-  pub unit_is : IsUnitOf league unit
   pub legs : List LegRun
   pub are : AreLegs league (room_of plan.effort) legs
   pub ended : Bool
   pub all : ended ≡ true → AreAll plan legs
-  pub text_is : text ≡ improve_text league unit ended legs
+  pub text_is : text ≡ improve_text league plan.history ended legs
 
 -- the texts of some legs
 pub record AreLegTexts (league : LeagueData) (plan : ImprovePlan) (text : List ℕ) : Type 0 where
-  pub unit : Measure
-  pub unit_is : IsUnitOf league unit
   pub legs : List LegRun
   pub are : AreLegs league (room_of plan.effort) legs
-  pub text_is : text ≡ legs_text league unit legs
+  pub text_is : text ≡ legs_text league legs
 
 -- For a sink with these bytes held and these calls
 module _ {W : Type 0} (held : W → Option (List ℕ)) (pushes : W → Tally) (league : LeagueData) (plan : ImprovePlan) (before after : W) where

@@ -1,34 +1,36 @@
 //! The improvement of a league's schedule.
 
-ghost use Rattle.std.specs.Prelude.{◌≡◌, ◌+◌, ◌<◌, ◌≤◌, List, [], ◌∷◌, IfOk, OnOk, IfNone, IfSome, None};
+ghost use Rattle.std.specs.Prelude.{◌≡◌, ◌+◌, ◌<◌, ◌≤◌, ◌^◌, List, [], ◌∷◌, All, IfOk, OnOk, IfNone, IfSome, None};
 ghost use Rattle.policy.specs.Limits.{max_effort};
 ghost use Rattle.byte_streams.specs.declared.buffered.BufferedSink.{BufferedSink};
-ghost use Rattle.byte_streams.specs.Writing.{waiting_in};
-ghost use Rattle.league.specs.League.{teams};
+ghost use Rattle.byte_streams.specs.Writing.{Writes, waiting_in};
+ghost use Rattle.league.specs.League.{IsLeague, teams};
 ghost use Rattle.draws.specs.Draws.{AreRoundsOf};
-ghost use Rattle.improvement.specs.Legs.{LegRun};
-ghost use Rattle.improvement.specs.within.Lines.{IsLine, IsRunning, left_in, assigned_steps};
+ghost use Rattle.annealing.specs.Walks.{IsUnitOf};
+ghost use Rattle.improvement.specs.Legs.{IsWorkers, LegRun, room_of};
+ghost use Rattle.improvement.specs.within.Chains.{IsInLeague};
+ghost use Rattle.improvement.specs.within.Lines.{CanEnd, IsLine, IsRunning, left_in, assigned_steps};
 ghost use Rattle.improvement.specs.Outcome.{Improves};
 ghost use Rattle.improvement.specs.within.Settings.{IsSetting};
-ghost use Rattle.improvement.specs.within.UnderWay.{EndsBy, HasRunAll, HasWritten, IsUnderWay};
+ghost use Rattle.improvement.specs.within.UnderWay.{EndsBy, HasTold, HasWritten, IsUnderWay, end_text, run_of};
 
 use crate::broken::write_broken;
-use crate::chains::Chains;
 use crate::field::Entrant;
-use crate::leg_text::{ReportedLeg, write_leg};
-use crate::legs::RunningLeg;
+use crate::leg_text::write_leg;
+use crate::legs::{Assignment, RunningLeg};
 use crate::line::LegQueue;
 use crate::plan::{ImproveFault, ImprovePlan};
 use crate::reported::Reported;
+use crate::reported_leg::ReportedLeg;
 use crate::rounds::free_rounds;
 use crate::setting::{Setting, start_board};
 use crate::watcher::{LegEnded, Watcher, Written};
-use annealing::{Annealed, measure};
+use annealing::{Annealed, Unit, measure};
 use board_texts::write_improved;
-use byte_streams::{BufferedSink, Sink};
+use byte_streams::{BufferedSink, Sink, WriteFault};
 use choices::MAX_WORKERS;
 use draws::{Gate, RunContext};
-use fixture_board::Best;
+use fixture_board::{Best, Board};
 use league::League;
 use std::alloc::AllocError;
 use std::snapshot::Snapshot;
@@ -55,13 +57,32 @@ pub fn improve<T: Threads + Wait + Sync, G: Gate + Sync, W: Sink, V: Watcher<W> 
     }
     let unit = measure(run_context.alloc, &league)?;
     let start = start_board(run_context.alloc, league, plan.effort)?;
-    let rounds = free_rounds(run_context.alloc, &start)?;
+    improve_from(run_context, &start, unit, plan, sink, watcher)
+}
+
+/// Improves from a board at the league's start, whose unit this is.
+fn improve_from<T: Threads + Wait + Sync, G: Gate + Sync, W: Sink, V: Watcher<W> + Drop>(
+    run_context: RunContext<'_, T, G>,
+    start: &Board,
+    unit: Unit,
+    plan: ImprovePlan,
+    sink: &mut W,
+    watcher: V,
+) -> Result<Option<Best>, ImproveFault>
+    requires league { IsLeague start.now.league }
+    requires room { start.now.room ≡ room_of plan.effort }
+    requires workers { IsWorkers plan }
+    requires effort { plan.effort ≤ max_effort }
+    requires unit { IsUnitOf start.now.league unit }
+    ensures { Improves W.held W.tally start.now.league plan sink.old sink.new result }
+{
+    let rounds = free_rounds(run_context.alloc, start)?;
     let setting = Setting {
         run_context,
         plan,
         unit,
         rounds: &rounds,
-        start: &start,
+        start,
     };
     let (ended, sink) = in_scope(&setting, sink, watcher);
     take_back(sink);
@@ -119,41 +140,52 @@ fn run_and_write<'s, E, T: Threads + Wait + Sync, G: Gate + Sync, W: Sink, V: Wa
 ) -> Result<Option<Best>, ImproveFault>
     requires setting { IsSetting setting }
     requires none { waiting_in out.old ≡ [] }
-    ensures { EndsBy W.held W.tally setting.entry.start.now setting.entry.unit setting.entry.plan out.old out.new
-        (HasWritten W.held W.tally setting.entry.start.now setting.entry.unit setting.entry.plan out.old out.new) result }
+    ensures { EndsBy W.held W.tally setting.entry.start.now setting.entry.plan out.old out.new
+        (HasWritten W.held W.tally setting.entry.start.now setting.entry.plan out.old out.new) result }
 {
-    let reported = run_all(scope, setting, out, watcher)?;
-    write_broken(out, &reported)?;
-    write_improved(out, &reported.lead)?;
-    out.flush()?;
+    let mut reported = Reported::none(setting.run_context.alloc, setting.start)?;
+    let mut line = LegQueue::new(&setting);
+    run_line(scope, setting, &mut line, &mut reported, out, watcher)
+}
+
+/// Runs the legs of a line to its end, and writes what they come to.
+fn run_line<'s, E, T: Threads + Wait + Sync, G: Gate + Sync, W: Sink, V: Watcher<W>>(
+    scope: &Scope<'s, E>,
+    setting: Setting<'s, T, G>,
+    line: &mut LegQueue,
+    reported: &mut Reported,
+    out: &mut BufferedSink<'_, W>,
+    watcher: &mut V,
+) -> Result<Option<Best>, ImproveFault>
+    requires setting { IsSetting setting }
+    requires none { waiting_in out.old ≡ [] }
+    requires under_way { IsUnderWay W.held W.tally setting.start.now setting.plan out.old out.old [] line.old reported.old }
+    ensures { EndsBy W.held W.tally setting.entry.start.now setting.entry.plan out.old out.new
+        (HasWritten W.held W.tally setting.entry.start.now setting.entry.plan out.old out.new) result }
+{
+    let run_context = setting.run_context;
+    run_context.gate.begun(run_context.rt, 0);
+    let lent = Snapshot::of(&*out);
+    while let Some(leg) = next_leg(scope, setting, line, watcher)? {
+        report_leg(setting, leg, line, reported, &lent, out, watcher)?;
+    }
+    write_end(out, setting.plan.history, reported)?;
     Ok(reported.lead.best())
 }
 
-/// Runs all legs, and writes what each comes to as it has ended.
-fn run_all<'s, E, T: Threads + Wait + Sync, G: Gate + Sync, W: Sink, V: Watcher<W>>(
-    scope: &Scope<'s, E>,
-    setting: Setting<'s, T, G>,
+/// Writes what all legs together come to, with or without the history that leads there. Nothing waits then.
+fn write_end<W: Sink>(
     out: &mut BufferedSink<'_, W>,
-    watcher: &mut V,
-) -> Result<Reported, ImproveFault>
-    requires setting { IsSetting setting }
-    requires none { waiting_in out.old ≡ [] }
-    ensures { EndsBy W.held W.tally setting.entry.start.now setting.entry.unit setting.entry.plan out.old out.new
-        (HasRunAll W.held W.tally setting.entry.start.now setting.entry.unit setting.entry.plan out.old out.new) result }
+    history: bool,
+    reported: &Reported,
+) -> Result<(), WriteFault>
+    requires { All (IsInLeague reported.now.lead.league) reported.now.chains.bests.items }
+    ensures writes { Writes W.held W.tally out.old out.new result (end_text history reported.now) }
+    ensures sent { OnOk result (waiting_in out.new ≡ []) }
 {
-    setting.run_context.gate.begun(setting.run_context.rt, 0);
-    let lent = Snapshot::of(&*out);
-    let mut line = LegQueue::new(&setting);
-    let mut reported = Reported {
-        lead: setting.board_or_new(None)?,
-        least: None,
-        legs: 0,
-        chains: Chains::new(setting.run_context.alloc),
-    };
-    while let Some(leg) = next_leg(scope, setting, &mut line, watcher)? {
-        report_leg(setting, leg, &mut line, &mut reported, &lent, out, watcher)?;
-    }
-    Ok(reported)
+    write_broken(out, reported)?;
+    write_improved(out, &reported.lead, history)?;
+    out.flush()
 }
 
 /// Takes the next leg out of the line, unless there is none. If several improvements share their steps, and the watcher wants no more, none
@@ -180,7 +212,7 @@ fn next_leg<'s, E, T: Threads + Wait + Sync, G: Gate + Sync, W: Sink, V: Watcher
     line.next(scope, setting)
 }
 
-/// Waits for a leg's end, writes what it came to, reports it to the watcher, and has the leg's chain go on.
+/// Waits for a leg's end, reports it, and has its chain go on.
 fn report_leg<'w, T: Threads + Wait + Sync, G: Gate + Sync, W: Sink, V: Watcher<W>>(
     setting: Setting<'_, T, G>,
     leg: RunningLeg,
@@ -192,40 +224,67 @@ fn report_leg<'w, T: Threads + Wait + Sync, G: Gate + Sync, W: Sink, V: Watcher<
 ) -> Result<(), ImproveFault>
     requires setting { IsSetting setting }
     requires none { waiting_in lent.now.value ≡ [] }
-    requires under_way { IsUnderWay W.held W.tally setting.start.now setting.unit setting.plan
-        lent.now.value out.old (leg ∷ []) line.old reported.old }
-    ensures under_way { (first : BufferedSink W) → IsUnderWay W.held W.tally setting.entry.start.now setting.entry.unit setting.entry.plan
-        first out.old (leg ∷ []) line.old reported.old →
-        EndsBy W.held W.tally setting.entry.start.now setting.entry.unit setting.entry.plan first out.new
-        (λ done. IsUnderWay W.held W.tally setting.entry.start.now setting.entry.unit setting.entry.plan first out.new []
-        line.new reported.new) result }
+    requires under_way { IsUnderWay W.held W.tally setting.start.now setting.plan lent.now.value out.old (leg ∷ []) line.old reported.old }
+    ensures under_way { (first : BufferedSink W) →
+        IsUnderWay W.held W.tally setting.entry.start.now setting.entry.plan first out.old (leg ∷ []) line.old reported.old →
+        EndsBy W.held W.tally setting.entry.start.now setting.entry.plan first out.new
+        (λ done. IsUnderWay W.held W.tally setting.entry.start.now setting.entry.plan first out.new [] line.new reported.new) result }
     ensures fewer { OnOk result (left_in line.new < assigned_steps leg.assignment + left_in line.old) }
 {
     let run_context = setting.run_context;
     let RunningLeg { assignment, state } = leg;
-    let Annealed { chain, end } = state.outcome(run_context.rt)?;
+    let annealed = state.outcome(run_context.rt)?;
     run_context.gate.ended(run_context.rt);
-    let ended = ReportedLeg {
-        number: reported.legs + 1,
-        chain: assignment.chain,
-        leg: assignment.leg,
-        end,
-    };
-    write_leg(out, setting.unit, ended, reported.least, &chain.board)?;
-    let improves = reported.offer(run_context.alloc, assignment.chain, &chain.board)?;
+    report(setting, assignment, &annealed, reported, lent, out, watcher)?;
+    run_context.gate.begun(run_context.rt, 0);
+    let Annealed { chain, end } = annealed;
+    let number = assignment.chain;
+    line.go_on(assignment, end, Entrant { number, chain })?;
+    Ok(())
+}
+
+/// Writes the schedule of a leg that has ended, if it is better than all before, takes in what the leg came to, and reports it to the
+/// watcher.
+fn report<'w, T: Threads + Wait + Sync, G: Gate + Sync, W: Sink, V: Watcher<W>>(
+    setting: Setting<'_, T, G>,
+    assignment: Assignment,
+    annealed: &Annealed,
+    reported: &mut Reported,
+    lent: &Snapshot<BufferedSink<'w, W>>,
+    out: &mut BufferedSink<'w, W>,
+    watcher: &mut V,
+) -> Result<(), ImproveFault>
+    requires setting { IsSetting setting }
+    requires none { waiting_in lent.now.value ≡ [] }
+    requires few { reported.old.legs + 1 < 2 ^ 64 }
+    requires told { (legs : List LegRun) × HasTold W.held W.tally setting.start.now setting.plan lent.now.value out.old legs reported.old
+        × CanEnd setting.start.now legs assignment annealed.now }
+    ensures { (first : BufferedSink W) (legs : List LegRun) →
+        HasTold W.held W.tally setting.entry.start.now setting.entry.plan first out.old legs reported.old →
+        CanEnd setting.entry.start.now legs assignment annealed.now →
+        EndsBy W.held W.tally setting.entry.start.now setting.entry.plan first out.new
+        (λ done. HasTold W.held W.tally setting.entry.start.now setting.entry.plan first out.new (run_of assignment annealed.now ∷ legs)
+        reported.new) result }
+{
+    let board = &annealed.chain.board;
+    write_leg(out, reported.least, board)?;
+    let improves = reported.offer(setting.run_context.alloc, assignment.chain, board)?;
     let written = Written {
         league: setting.start.league(),
         plan: setting.plan,
         lent,
         now: Snapshot::of(&*out),
     };
+    let ended = ReportedLeg {
+        number: reported.legs,
+        chain: assignment.chain,
+        leg: assignment.leg,
+        end: annealed.end,
+    };
     watcher.leg_ended(
-        LegEnded::of(ended, reported.least),
+        LegEnded::of(setting.unit, ended, reported.least),
         reported.lead_if(improves),
         written,
     );
-    run_context.gate.begun(run_context.rt, 0);
-    let number = assignment.chain;
-    line.go_on(assignment, end, Entrant { number, chain })?;
     Ok(())
 }

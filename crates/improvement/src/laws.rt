@@ -1,13 +1,14 @@
 //! The laws of improvements. The functions do nothing: what is known of all legs is in their contracts.
 
-ghost use Rattle.std.specs.Prelude.{◌≡◌, ℕ, ◌<◌, List, length, All};
+ghost use Rattle.std.specs.Prelude.{◌≡◌, ℕ, ◌<◌, Bool, true, List, ◌∷◌, ◌++◌, length, All, codes};
 ghost use Rattle.league.specs.League.{LeagueData, IsLeague};
 ghost use Rattle.improvement.specs.declared.broken.Part.{Part};
 ghost use Rattle.improvement.specs.Broken.{broken_in};
 ghost use Rattle.improvement.specs.Chains.{chains_of};
-ghost use Rattle.improvement.specs.Laws.{CannotBeKept, Fall, IsEnd, IsSolution};
+ghost use Rattle.improvement.specs.Laws.{BeginsWith, CannotBeKept, EndsWith, Fall, IsEnd, IsSolution, last_line, newest_total};
 ghost use Rattle.improvement.specs.Legs.{AreLegs, LegRun, lead_of};
-ghost use Rattle.improvement.specs.Solutions.{solutions_of};
+ghost use Rattle.improvement.specs.LegText.{blocks, improve_text};
+ghost use Rattle.improvement.specs.Solutions.{Solution, solutions_of};
 
 /// Each schedule that is written is a double round robin of the league's teams that keeps all hard limits, with its total.
 pub fn solutions_are_feasible()
@@ -25,6 +26,21 @@ pub fn totals_fall()
 pub fn end_is_least()
     ensures { (league : LeagueData) (room : ℕ) (legs : List LegRun) →
         AreLegs league room legs → 0 < length legs → IsEnd league room legs (lead_of league legs) }
+{}
+
+/// The last line has the total of the schedule that was written last, or `none` if none was.
+pub fn last_line_has_the_last_total()
+    ensures { (league : LeagueData) (history : Bool) (legs : List LegRun) → 0 < length legs →
+        EndsWith (last_line history (newest_total (solutions_of league legs)) (length (lead_of league legs)))
+        (improve_text league history true legs) }
+{}
+
+/// A text begins with the blocks of the schedules up to any that was written, and these end with the line `----------`. So what stands up
+/// to there is whole.
+pub fn text_up_to_a_block_is_whole()
+    ensures { (league : LeagueData) (history ended : Bool) (legs : List LegRun) (newer older : List Solution) (s : Solution) →
+        solutions_of league legs ≡ newer ++ s ∷ older → BeginsWith (blocks league (s ∷ older)) (improve_text league history ended legs)
+        × EndsWith (codes "\n----------\n") (blocks league (s ∷ older)) }
 {}
 
 /// A part of what is hard that no schedule of the league keeps is broken in each chain.

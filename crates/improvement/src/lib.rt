@@ -14,6 +14,7 @@ mod legs;
 mod line;
 mod plan;
 mod reported;
+mod reported_leg;
 mod rounds;
 mod series;
 mod setting;
@@ -22,6 +23,9 @@ mod standing;
 mod watcher;
 
 pub use improving::improve;
-pub use laws::{end_is_least, solutions_are_feasible, totals_fall, unkept_is_broken_in_each};
+pub use laws::{
+    end_is_least, last_line_has_the_last_total, solutions_are_feasible,
+    text_up_to_a_block_is_whole, totals_fall, unkept_is_broken_in_each,
+};
 pub use plan::{ImproveFault, ImprovePlan};
 pub use watcher::{LegEnded, NoWatcher, Watcher, Written};

@@ -19,6 +19,8 @@ pub struct ImprovePlan {
     /// If several improvements are to share these steps those of the first one. Each other one has twice the steps of the one before, or what
     /// is left, and the next seed. They end early if the watcher wants no more.
     pub first: Option<u64>,
+    /// Whether the text has the history that leads to the best schedule.
+    pub history: bool,
 }
 
 /// Why an improvement ended early.

@@ -1,10 +1,11 @@
 //! The results of all legs that were reported.
 
-ghost use Rattle.std.specs.Prelude.{◌≡◌, ◌+◌, ◌^◌, ◌<◌, if◌then◌else◌, Some, None, IfOk, OnOk, option_map};
+ghost use Rattle.std.specs.Prelude.{◌≡◌, ◌+◌, ◌^◌, ◌<◌, if◌then◌else◌, [], Some, None, IfOk, OnOk, option_map};
 ghost use Rattle.fixture_board.specs.Record.{book};
 ghost use Rattle.improvement.specs.Chains.{offered, reached};
 ghost use Rattle.improvement.specs.Legs.{least_in, lesser};
 ghost use Rattle.improvement.specs.within.Legs.{lead_after};
+ghost use Rattle.improvement.specs.within.UnderWay.{HasReported};
 ghost use Rattle.improvement.specs.Watched.{takes_lead};
 
 use crate::chains::Chains;
@@ -26,6 +27,18 @@ pub(crate) struct Reported {
 }
 
 impl Reported {
+    /// Before the first leg, on boards like this one.
+    pub(crate) fn none(alloc: Global, start: &Board) -> Result<Self, AllocError>
+        ensures { IfOk result (HasReported start.now []) }
+    {
+        Ok(Reported {
+            lead: start.anew(alloc)?,
+            least: None,
+            legs: 0,
+            chains: Chains::new(alloc),
+        })
+    }
+
     /// Takes in the history of one more leg of this chain, and tells whether it leads now.
     pub(crate) fn offer(
         &mut self,

@@ -3,11 +3,13 @@
 ghost use Rattle.std.specs.Prelude.{◌≡◌, option_map};
 ghost use Rattle.improvement.specs.Watched.{HasLines, ended_as};
 
-use crate::leg_text::ReportedLeg;
 use crate::plan::ImprovePlan;
+use crate::reported_leg::{ReportedLeg, first_heat, in_thousandths, last_heat};
+use annealing::Unit;
 use byte_streams::{BufferedSink, Sink};
 use fixture_board::Board;
 use league::League;
+use policy::MoveSet;
 use std::snapshot::Snapshot;
 
 /// A leg that has ended.
@@ -17,6 +19,12 @@ pub struct LegEnded {
     pub number: u64,
     /// The number of its chain, from 1.
     pub chain: u64,
+    /// The kinds of moves that it drew from.
+    pub moves: MoveSet,
+    /// The first temperature, in thousandths of a distance.
+    pub from: u64,
+    /// The last one or, of a leg that heats, the highest one that it had.
+    pub to: u64,
     /// How many moves it drew.
     pub steps: u64,
     /// How many of these it made.
@@ -30,17 +38,21 @@ pub struct LegEnded {
 }
 
 impl LegEnded {
-    /// The leg as it is reported, and the least total of all legs so far.
-    pub(crate) fn of(reported: ReportedLeg, least: Option<u64>) -> LegEnded
-        ensures { result ≡ ended_as reported least }
+    /// The leg as it is reported in a league of this unit, and the least total of all legs so far.
+    pub(crate) fn of(unit: Unit, reported: ReportedLeg, least: Option<u64>) -> LegEnded
+        ensures { result ≡ ended_as unit reported least }
     {
+        let ReportedLeg { leg, end, .. } = reported;
         LegEnded {
             number: reported.number,
             chain: reported.chain,
-            steps: reported.end.steps,
-            accepted: reported.end.accepted,
-            hard: reported.end.hard,
-            best: reported.end.best,
+            moves: leg.moves,
+            from: in_thousandths(unit, first_heat(leg.course)),
+            to: in_thousandths(unit, last_heat(leg.course, end)),
+            steps: end.steps,
+            accepted: end.accepted,
+            hard: end.hard,
+            best: end.best,
             least,
         }
     }
@@ -61,8 +73,8 @@ pub struct Written<'a, 'w, W> {
 /// Looks on at an improvement that writes to such a sink, and changes nothing of what that does and writes, but for when several that share
 /// their steps end.
 pub trait Watcher<W: Sink> {
-    /// A leg has ended, and its lines and those of all before it stand at the sink. If it changed the history that leads there is a board
-    /// with that history: it is the first leg's, or better than the one before.
+    /// A leg has ended, whether or not anything was written of it, and the better schedules so far stand at the sink. If it changed the
+    /// history that leads there is a board with that history: it is the first leg's, or better than the one before.
     fn leg_ended(&mut self, leg: LegEnded, better: Option<&Board>, written: Written<'_, '_, W>)
         requires { HasLines W.held written leg (option_map (λ board. board.now) better) };
 

@@ -9,8 +9,8 @@ ghost use Rattle.std.specs.Prelude.{◌≤◌};
 
 use byte_streams::{MemorySink, RehearsedSink, Sink, Step};
 use draws::{NoGate, RunContext};
-use fixture_board::Best;
-use improvement::{ImproveFault, ImprovePlan, NoWatcher, improve};
+use fixture_board::{Best, Board};
+use improvement::{ImproveFault, ImprovePlan, LegEnded, NoWatcher, Watcher, Written, improve};
 use league::{League, circular};
 use league_json::read_league;
 use std::alloc::{AllocError, Global};
@@ -45,6 +45,7 @@ fn asked(workers: u32, effort: u64) -> ImprovePlan
         seed: 1,
         effort: effort.clamp(1, 1_000_000),
         first: None,
+        history: false,
     }
 }
 
@@ -88,6 +89,58 @@ fn improvement_of<T: Threads + Wait + Sync + Abort>(
     requires most { plan.effort ≤ 1000000 }
 {
     improved_by(rt, alloc, league, plan, &[]).expect(rt, "memory")
+}
+
+/// Counts legs and their steps, keeps the leg behind so many steps, and wants so many legs.
+#[derive(Drop)]
+struct Counter {
+    wanted: u64,
+    behind: u64,
+    legs: u64,
+    steps: u64,
+    kept: Option<LegEnded>,
+}
+
+impl<W: Sink> Watcher<W> for Counter {
+    fn leg_ended(&mut self, leg: LegEnded, _better: Option<&Board>, _written: Written<'_, '_, W>) {
+        if self.steps == self.behind && self.kept.is_none() {
+            self.kept = Some(leg);
+        }
+        self.legs = self.legs.saturating_add(1);
+        self.steps = self.steps.saturating_add(leg.steps);
+    }
+
+    fn wants_more(&mut self) -> bool {
+        self.legs < self.wanted
+    }
+}
+
+/// What a counter saw of an improvement that ended well.
+fn counted<T: Threads + Wait + Sync + Abort>(
+    rt: &T,
+    alloc: Global,
+    league: League,
+    plan: ImprovePlan,
+    wanted: u64,
+    behind: u64,
+) -> Counter
+    requires least { 1 ≤ plan.effort }
+    requires most { plan.effort ≤ 1000000 }
+{
+    let mut counter = Counter {
+        wanted,
+        behind,
+        legs: 0,
+        steps: 0,
+        kept: None,
+    };
+    let mut buffer = vec![in alloc; 0; 400_000].expect(rt, "memory");
+    let gate = &NoGate;
+    let run_context = RunContext { rt, alloc, gate };
+    let mut sink = MemorySink::new(&mut buffer);
+    let ended = improve(run_context, league, plan, &mut sink, &mut counter);
+    check_same(rt, &ended.is_ok(), &true);
+    counter
 }
 
 /// The two are equal.

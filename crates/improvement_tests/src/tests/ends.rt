@@ -1,6 +1,5 @@
 //! Improvements that end early, and one without a feasible schedule.
 
-use super::legs::number_behind;
 use super::{Improved, asked, check_same, impossible, improved_by, improvement_of};
 use byte_streams::Step;
 use improvement::ImproveFault;
@@ -9,7 +8,7 @@ use std::alloc::Global;
 use std::process::Abort;
 use std::sync::Wait;
 use std::thread::Threads;
-use text_lines::{next_line, split_at_line};
+use text_lines::{next_line, next_word, number, split_at_line};
 
 /// How an improvement of four teams by so many workers ends whose writes go by these steps.
 fn ended<T: Threads + Wait + Sync>(
@@ -55,9 +54,7 @@ fn failed_writes_leave_fronts_of_the_text(rt: HostRuntime) {
     let whole = ended(&rt, rt.alloc(), 1, &[]).expect(&rt, "memory");
     check_same(&rt, &whole.ended.is_ok(), &true);
     for writes in 1..whole.calls {
-        if writes % 4 == 1 {
-            check_failing(&rt, rt.alloc(), writes, &whole);
-        }
+        check_failing(&rt, rt.alloc(), writes, &whole);
     }
 }
 
@@ -73,21 +70,15 @@ fn wrong_numbers_of_workers_write_nothing(rt: HostRuntime) {
     }
 }
 
-/// How many chains the legs of a text have, and the line before its history.
-fn chains_reported(text: &[u8]) -> (u64, &[u8]) {
-    let mut chains = 0;
-    let mut last: &[u8] = b"";
-    let mut rest = text;
-    for _ in 0..100_000 {
-        match next_line(&mut rest) {
-            Some(line) if !line.starts_with(b"history ") => {
-                chains = number_behind(line, b"chain").unwrap_or(0).max(chains);
-                last = line;
-            }
-            _ => break,
+/// The number behind a word of a line.
+fn number_behind(line: &[u8], word: &[u8]) -> Option<u64> {
+    let mut rest = line;
+    for _ in 0..100 {
+        if next_word(&mut rest)? == word {
+            return number(next_word(&mut rest)?);
         }
     }
-    (chains, last)
+    None
 }
 
 /// A rule that no schedule keeps is broken in each chain.
@@ -95,11 +86,12 @@ fn chains_reported(text: &[u8]) -> (u64, &[u8]) {
 fn rule_that_cannot_be_kept_is_broken_in_each_chain(rt: HostRuntime) {
     let league = impossible(&rt, rt.alloc());
     let found = improvement_of(&rt, rt.alloc(), league, asked(1, 3000));
-    let (chains, last) = chains_reported(&found.text);
-    let wanted = format!(in rt.alloc(); "rule 1 CA1 broken in {chains} of {chains}").expect(
-        &rt, "memory",
-    );
-    check_same(&rt, &(chains > 1, last == wanted.as_bytes()), &(true, true));
+    let mut rest: &[u8] = &found.text;
+    let line = next_line(&mut rest).expect(&rt, "a line");
+    check_same(&rt, &line.starts_with(b"rule 1 CA1 broken in "), &true);
+    let chains = number_behind(line, b"of");
+    check_same(&rt, &number_behind(line, b"in"), &chains);
+    check_same(&rt, &(chains > Some(1)), &true);
 }
 
 #[test]

@@ -11,8 +11,3 @@ pub returns-in_err-start : goal.returns-in_err-start
 returns-in_err-start g c =
     let p = err_from_is_err_and c.from_residual-in_err-start.result c.from_residual-in_err-start.ensures.1 in
     rw (p.1, p.2) ((omega arith, omega arith), inl refl)
-
-pub returns-in_err-rounds : goal.returns-in_err-rounds
-returns-in_err-rounds g c =
-    let p = err_from_is_err_and c.from_residual-in_err-rounds.result c.from_residual-in_err-rounds.ensures.1 in
-    rw (p.1, p.2) ((omega arith, omega arith), inl refl)
