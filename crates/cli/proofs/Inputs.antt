@@ -22,7 +22,7 @@ module _ {W : Type 0} (held : W → Option (List ℕ)) (pushes : W → Tally) (b
   not_unread : (job : Job) → EndsJobOn held pushes bytes None None title job told before after (Err Read) → ⊥
   not_unread Start ends = ends.0
   not_unread (Play room) ends = ends.0
-  not_unread (Improve workers seed effort seconds) ends = ends.0
+  not_unread (Improve workers seed effort seconds history) ends = ends.0
   not_unread (Find room plan) ends = ends.0
   not_unread (Report format) ends = ends.0
   not_unread (Make choice at_most hard_weight) ends = ends.0
@@ -30,7 +30,7 @@ module _ {W : Type 0} (held : W → Option (List ℕ)) (pushes : W → Tally) (b
   not_long : (job : Job) → EndsJobOn held pushes bytes None None title job told before after (Err TooLong) → ⊥
   not_long Start ends = ends.0
   not_long (Play room) ends = ends.0
-  not_long (Improve workers seed effort seconds) ends = ends.0
+  not_long (Improve workers seed effort seconds history) ends = ends.0
   not_long (Find room plan) ends = ends.0
   not_long (Report format) ends = ends.0
   not_long (Make choice at_most hard_weight) ends = ends.0

@@ -49,7 +49,7 @@ rounded_in told = None
 -- whether the job ends with a verdict: a report or an improvement
 abbrev pub is_judged : Job → Bool
 is_judged (Report format) = true
-is_judged (Improve workers seed effort seconds) = true
+is_judged (Improve workers seed effort seconds history) = true
 is_judged job = false
 
 abbrev pub is_search : Job → Bool
@@ -65,9 +65,16 @@ abbrev pub HasSearchEnd : Job → Result Ending ProgramFault → Type 0
 HasSearchEnd job outcome = IfOk outcome (λ ending. is_some (search_end_in (Some ending)) ≡ is_search job)
 
 -- the plan of one improvement or, if there are seconds for them, of improvements that follow each other, of which the first has this effort
-abbrev pub plan_of : ℕ → ℕ → ℕ → Option ℕ → ImprovePlan
-plan_of workers seed effort None = record { workers = workers; seed = seed; effort = effort; first = None }
-plan_of workers seed effort (Some seconds) = record { workers = workers; seed = seed; effort = max_effort; first = Some effort }
+abbrev pub plan_of : ℕ → ℕ → ℕ → Option ℕ → Bool → ImprovePlan
+plan_of workers seed effort None history =
+    record { workers = workers; seed = seed; effort = effort; first = None; history = history }
+plan_of workers seed effort (Some seconds) history =
+    record { workers = workers; seed = seed; effort = max_effort; first = Some effort; history = history }
+
+-- whether the best schedule of an improvement has the history that leads to it
+abbrev pub wants_history : Job → Bool
+wants_history (Improve workers seed effort seconds history) = history
+wants_history job = false
 
 -- the league's text and the lines beside it: all of an input and of the second text if that was read by itself, otherwise what
 -- stands before and after the word
@@ -87,8 +94,8 @@ module _ {W : Type 0} (held : W → Option (List ℕ)) (pushes : W → Tally) (i
   EndsJobOn Start told = EndsOn held pushes (AnswersStartOn input beginning)
   EndsJobOn (Play room) told = EndsOn held pushes
       (AnswersPlayOn room (league_part (codes "script") input second) (unwrap_or (lines_part (codes "script") input second) []) beginning)
-  EndsJobOn (Improve workers seed effort seconds) told =
-      EndsImproveOn held pushes (plan_of workers seed effort seconds) (verdict_in told) input beginning
+  EndsJobOn (Improve workers seed effort seconds history) told =
+      EndsImproveOn held pushes (plan_of workers seed effort seconds history) (verdict_in told) input beginning
   EndsJobOn (Find room plan) told = EndsOn held pushes (AnswersFindOn room plan (search_end_in told) input beginning)
   EndsJobOn (Report format) told = EndsOn held pushes
       (AnswersReportOn format (verdict_in told) (league_part (codes "sheet") input second) (lines_part (codes "sheet") input second) beginning)

@@ -44,10 +44,16 @@ struct Followed<'a, F> {
 }
 
 impl<'a, R: Files + Clock + Eprint> Follower<'a, R> {
-    /// The files that the words name, each of which can be written. The log is a new file.
-    pub fn new(rt: &'a R, alloc: Global, words: &'a FileWords) -> Result<Self, Unwritten<'a>> {
+    /// The files that the words name, each of which can be written. The log is a new file. The best schedule has the history that leads to
+    /// it if that is wanted.
+    pub fn new(
+        rt: &'a R,
+        alloc: Global,
+        words: &'a FileWords,
+        history: bool,
+    ) -> Result<Self, Unwritten<'a>> {
         let found = match &words.output {
-            Some(name) => Some(opened(name, FoundFile::new(rt, alloc, name))?),
+            Some(name) => Some(opened(name, FoundFile::new(rt, alloc, name, history))?),
             None => None,
         };
         let log = match &words.log {

@@ -20,19 +20,21 @@ use std::{fs, io};
 /// How many names beside a file are tried. A run that writes at the same time has one, and one that was killed may have left one.
 const MOST_BESIDE: u32 = 1_000;
 
-/// A file that has the best schedule so far, behind the history that leads to it, and is whole at any time: the next text is written
-/// in a new file beside it, which takes its place once it is on the disk.
+/// A file that has the best schedule so far, and is whole at any time: the next text is written in a new file beside it, which takes its
+/// place once it is on the disk.
 #[derive(Drop)]
 pub(crate) struct FoundFile<'a, R> {
     files: &'a R,
     alloc: Global,
     /// Its name or, if that is a link, where the link leads.
     name: String,
+    /// Whether the history that leads to the schedule stands before it.
+    history: bool,
 }
 
 impl<'a, R: Files> FoundFile<'a, R> {
     /// Such a file, if one can be written there. What stands there stays for now.
-    pub(crate) fn new(files: &'a R, alloc: Global, name: &str) -> io::Result<Self> {
+    pub(crate) fn new(files: &'a R, alloc: Global, name: &str, history: bool) -> io::Result<Self> {
         if is_no_file(files, name) || name.ends_with('/') || name.ends_with("/.") {
             return Err(io::Error::from(ErrorKind::AlreadyExists));
         }
@@ -40,10 +42,15 @@ impl<'a, R: Files> FoundFile<'a, R> {
         let (beside, file) = new_beside(files, alloc, name.as_str())?;
         drop(file);
         fs::remove_file(files, &beside)?;
-        Ok(FoundFile { files, alloc, name })
+        Ok(FoundFile {
+            files,
+            alloc,
+            name,
+            history,
+        })
     }
 
-    /// Has the file have the board's history and its best schedule. If that fails it has what it had.
+    /// Has the file have the board's best schedule. If that fails it has what it had.
     pub(crate) fn put(&self, board: &Board) -> io::Result<()> {
         let (beside, file) = new_beside(self.files, self.alloc, self.name.as_str())?;
         let outcome = self.replace(&beside, file, board);
@@ -55,7 +62,7 @@ impl<'a, R: Files> FoundFile<'a, R> {
     }
 
     fn replace(&self, beside: &PathBuf, mut file: R::File, board: &Board) -> io::Result<()> {
-        if write_end(&mut WriterSink::new(&mut file), board).is_err() {
+        if write_end(&mut WriterSink::new(&mut file), board, self.history).is_err() {
             return Err(io::Error::from(ErrorKind::WriteZero));
         }
         file.sync_all()?;
@@ -106,13 +113,13 @@ fn beside(alloc: Global, name: &str, number: u32) -> Result<Option<PathBuf>, All
     Ok(Some(path.with_file_name(alloc, hidden.as_str())?))
 }
 
-/// Writes the end of an improvement in which the board's history leads.
-fn write_end<W: Sink>(sink: &mut W, board: &Board) -> Result<(), WriteFault>
-    ensures ok { OnOk result (Appends (W.held sink.old) (W.held sink.new) (improved_text board.now.league board.now.history)) }
+/// Writes the end of an improvement in which the board's history leads, with that history if it is wanted.
+fn write_end<W: Sink>(sink: &mut W, board: &Board, history: bool) -> Result<(), WriteFault>
+    ensures ok { OnOk result (Appends (W.held sink.old) (W.held sink.new) (improved_text history board.now.league board.now.history)) }
     ensures prefix { OnErr result (AppendsPrefix (W.held sink.old) (W.held sink.new)
-        (improved_text board.now.league board.now.history)) }
+        (improved_text history board.now.league board.now.history)) }
 {
     let mut out = BufferedSink::new(sink);
-    write_improved(&mut out, board)?;
+    write_improved(&mut out, board, history)?;
     out.flush()
 }

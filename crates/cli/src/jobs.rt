@@ -6,7 +6,7 @@ ghost use Rattle.options.specs.CommandLine.{IsInRange};
 ghost use Rattle.league.specs.Labels.{is_title};
 ghost use Rattle.league.specs.Limits.{max_weight};
 ghost use Rattle.commands.specs.Outcome.{value_of, without_value};
-ghost use Rattle.cli.specs.Program.{league_part, lines_part, plan_of, rounded_in, search_end_in, verdict_in, Performs};
+ghost use Rattle.cli.specs.Program.{league_part, lines_part, plan_of, rounded_in, search_end_in, verdict_in, wants_history, Performs};
 
 use crate::timed::Timed;
 use byte_streams::WriterSink;
@@ -149,8 +149,9 @@ fn perform_at<T: Threads + Wait + Clock + Sync, G: Gate + Sync, W: Sink, V: Watc
             seed,
             effort,
             seconds,
+            history,
         } => {
-            let plan = plan_of(workers, seed, effort, seconds);
+            let plan = plan_of(workers, seed, effort, seconds, history);
             let timed = Timed::new(run_context.rt, seconds.unwrap_or(0), watcher);
             with_verdict(improve_on(run_context, input, beginning, sink, plan, timed))
         }
@@ -177,8 +178,8 @@ fn perform_at<T: Threads + Wait + Clock + Sync, G: Gate + Sync, W: Sink, V: Watc
 }
 
 /// One improvement, or improvements that follow each other if there are seconds for them.
-fn plan_of(workers: u32, seed: u64, effort: u64, seconds: Option<u32>) -> ImprovePlan
-    ensures { result ≡ plan_of workers seed effort seconds }
+fn plan_of(workers: u32, seed: u64, effort: u64, seconds: Option<u32>, history: bool) -> ImprovePlan
+    ensures { result ≡ plan_of workers seed effort seconds history }
 {
     let (effort, first) = match seconds {
         None => (effort, None),
@@ -189,6 +190,17 @@ fn plan_of(workers: u32, seed: u64, effort: u64, seconds: Option<u32>) -> Improv
         seed,
         effort,
         first,
+        history,
+    }
+}
+
+/// Whether the best schedule is to have the history that leads to it.
+pub(crate) fn wants_history(job: Job) -> bool
+    ensures { result ≡ wants_history job }
+{
+    match job {
+        Job::Improve { history, .. } => history,
+        _ => false,
     }
 }
 

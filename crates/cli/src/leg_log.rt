@@ -4,11 +4,13 @@ ghost use Rattle.std.specs.Prelude.{◌≡◌, OnErr, OnOk};
 ghost use Rattle.std.specs.Io.KnownBytes.{Appends};
 ghost use Rattle.byte_streams.specs.Sending.{AppendsPrefix};
 ghost use Rattle.byte_streams.specs.Writing.{Writes};
+ghost use Rattle.policy.specs.Legs.{kinds_of};
 ghost use Rattle.text_lines.specs.Pieces.{text_of_piece};
-ghost use Rattle.cli.specs.LegLog.{leg_line, new_line, number_or_null, IsAdded, IsTorn};
+ghost use Rattle.cli.specs.LegLog.{kinds_words, leg_line, new_line, number_or_null, IsAdded, IsTorn};
 
 use byte_streams::{BufferedSink, Sink, WriteFault, WriterSink};
 use commands::LegEnded;
+use policy::MoveSet;
 use std::io::{ErrorKind, Write};
 use std::time::{Clock, Instant};
 use std::{io, mem};
@@ -82,6 +84,20 @@ fn write_line<W: Sink>(
             Piece::Number(leg.number),
             Piece::Text(b",\"chain\":"),
             Piece::Number(leg.chain),
+            Piece::Text(b",\"moves\":["),
+            Piece::Text(words_of(leg.moves)),
+            Piece::Text(b"],\"from\":"),
+            Piece::Number(leg.from / 1000),
+            Piece::Text(b"."),
+            Piece::Number(leg.from / 100 % 10),
+            Piece::Number(leg.from / 10 % 10),
+            Piece::Number(leg.from % 10),
+            Piece::Text(b",\"to\":"),
+            Piece::Number(leg.to / 1000),
+            Piece::Text(b"."),
+            Piece::Number(leg.to / 100 % 10),
+            Piece::Number(leg.to / 10 % 10),
+            Piece::Number(leg.to % 10),
             Piece::Text(b",\"seconds\":"),
             Piece::Number(thousandths / 1000),
             Piece::Text(b"."),
@@ -101,6 +117,20 @@ fn write_line<W: Sink>(
             Piece::Text(b"}\n"),
         ],
     )
+}
+
+/// The words of the kinds of moves, as strings of JSON.
+fn words_of(moves: MoveSet) -> &'static [u8]
+    ensures { result.now ≡ kinds_words (kinds_of moves) }
+{
+    match moves {
+        MoveSet::Rigid => br#""homes","teams""#,
+        MoveSet::Loose => br#""homes","rounds","teams""#,
+        MoveSet::Full => br#""homes","rounds","teams","part-rounds","part-teams""#,
+        MoveSet::Repair => br#""homes","part-rounds","part-teams""#,
+        MoveSet::WideRepair => br#""homes","rounds","part-rounds","part-teams""#,
+        MoveSet::Partial => br#""homes","part-rounds","part-rounds","part-teams","part-teams""#,
+    }
 }
 
 /// The end of a line that was torn off.

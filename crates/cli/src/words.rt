@@ -16,7 +16,7 @@ ghost use Rattle.cli.specs.Program.{is_followed, is_judged, is_plain, status_of,
 ghost use Rattle.cli.specs.Program.{IsStatusBehind};
 
 use crate::follower::Follower;
-use crate::jobs::{Console, Ending, Texts, league_text, perform};
+use crate::jobs::{Console, Ending, Texts, league_text, perform, wants_history};
 use crate::same_file::same_file;
 use crate::texts_read::{TextsRead, read_texts};
 use crate::told::{
@@ -236,7 +236,8 @@ fn respond_on_files<
         Ok(texts) => texts,
         Err(text) => return unread(rt, text),
     };
-    let mut follower = match Follower::new(rt, console.alloc, &request.files) {
+    let history = wants_history(request.job);
+    let mut follower = match Follower::new(rt, console.alloc, &request.files, history) {
         Ok(follower) => follower,
         Err(file) => return unwritten(rt, file),
     };

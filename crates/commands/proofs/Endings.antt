@@ -1,5 +1,5 @@
 -- The endings of the commands.
-use Rattle.std.proofs.Common.{rules, ◌≡◌, ◌≤◌, ◌<◌, nat_lt, if◌then◌else◌, ℕ, List, [], length, Option, Some, None, IfSome, Result, Ok, Err, OnOk, OnErr, refl}
+use Rattle.std.proofs.Common.{rules, ◌≡◌, ◌≢◌, ◌≤◌, ◌<◌, nat_lt, if◌then◌else◌, ℕ, List, [], length, Option, Some, None, IfSome, Result, Ok, Err, OnOk, OnErr, refl, subst, sym}
 use Rattle.std.specs.Io.KnownBytes.{Appends}
 use Rattle.byte_streams.specs.Limits.{write_limit}
 use Rattle.byte_streams.specs.declared.tally.Tally.{Tally}
@@ -24,6 +24,8 @@ use Rattle.choices.specs.declared.search_plan.SearchPlan.{SearchPlan}
 use Rattle.search.specs.Outcomes.{IsFor, IsOutcome}
 use Rattle.board_texts.specs.PlayText.{play_text}
 use Rattle.board_texts.proofs.ForCallers.{played_again, plays_back}
+use Rattle.commands.specs.declared.fault.ProgramFault.{ProgramFault}
+use Rattle.commands.specs.declared.fault.ProgramFault.TheVariants.{Read, TooLong, League, Begin, Row, Distances, NoSheet, Room, Workers, Spawn, Receipts, Write, Memory}
 use Rattle.commands.specs.declared.search_end.SearchEnd.{SearchEnd}
 use Rattle.commands.specs.Begun.{Begins}
 use Rattle.commands.specs.Outcome.{value_of, without_value, Answer, EndsOn}
@@ -62,18 +64,44 @@ pub answers_play : (room : ℕ) (bytes : List ℕ) (script : List (List ℕ)) (b
 answers_play room bytes script beginning league begins limits room_is =
     (league, begins, record { room_is = room_is; text_is = refl; again = played_again league room script limits })
 
--- a room that is refused for its size is over that of any board
-too_large : (room : ℕ) → board.RoomRange ≡ (if nat_lt max_room room then board.RoomRange else board.Memory) → max_room < room
-too_large room is = search rules
+-- nothing was written before a fault that lies in the texts, or where memory is wanting
+pub ends_refused : {W : Type 0} (held : W → Option (List ℕ)) (pushes : W → Tally) (answers : Answer) (sink : W)
+    → ¬ answers (Err Write) → (fault : ProgramFault) → (fault ≢ Memory → answers (Err fault)) → EndsOn held pushes answers sink sink (Err fault)
+ends_refused held pushes answers sink never Memory is = refl
+ends_refused held pushes answers sink never Write is = absurd (never (is (λ e. cc)))
+ends_refused held pushes answers sink never Read is = (is (λ e. cc), refl)
+ends_refused held pushes answers sink never TooLong is = (is (λ e. cc), refl)
+ends_refused held pushes answers sink never (League fault) is = (is (λ e. cc), refl)
+ends_refused held pushes answers sink never (Begin fault) is = (is (λ e. cc), refl)
+ends_refused held pushes answers sink never (Row fault) is = (is (λ e. cc), refl)
+ends_refused held pushes answers sink never (Distances fault) is = (is (λ e. cc), refl)
+ends_refused held pushes answers sink never NoSheet is = (is (λ e. cc), refl)
+ends_refused held pushes answers sink never Room is = (is (λ e. cc), refl)
+ends_refused held pushes answers sink never Workers is = (is (λ e. cc), refl)
+ends_refused held pushes answers sink never Spawn is = (is (λ e. cc), refl)
+ends_refused held pushes answers sink never Receipts is = (is (λ e. cc), refl)
 
--- a search for which there is no board
-pub ends_without_board : (room : ℕ) (plan : SearchPlan) (bytes : List ℕ) (beginning : Option Beginning) (league : LeagueData)
-    → Begins bytes beginning league → {W : Type 0} (held : W → Option (List ℕ)) (pushes : W → Tally) (sink : W) (why : BoardFault)
-    → why ≡ (if nat_lt max_room room then board.RoomRange else board.Memory)
-    → EndsOn held pushes (AnswersFindOn room plan None bytes beginning) sink sink (Err (of_board why))
-ends_without_board room plan bytes beginning league begins held pushes sink board.RoomRange is =
-    ((league, begins, too_large room is), refl)
-ends_without_board room plan bytes beginning league begins held pushes sink board.Memory is = refl
+-- a room that is refused for its size is over that of any board
+over : (room : ℕ) → board.RoomRange ≡ (if nat_lt max_room room then board.RoomRange else board.Memory) → max_room < room
+over room is = search rules
+
+pub too_large : (room : ℕ) (why : BoardFault) → why ≡ (if nat_lt max_room room then board.RoomRange else board.Memory)
+    → of_board why ≢ Memory → (of_board why ≡ Room) × (max_room < room)
+too_large room board.RoomRange is not_memory = (refl, over room is)
+too_large room board.Memory is not_memory = absurd (not_memory refl)
+
+-- for a league that begins and such a room there is no board
+pub plays_not : (room : ℕ) (bytes : List ℕ) (script : List (List ℕ)) (beginning : Option Beginning) (league : LeagueData)
+    → Begins bytes beginning league → (fault : ProgramFault) → (fault ≡ Room) × (max_room < room)
+    → AnswersPlayOn room bytes script beginning (Err fault)
+plays_not room bytes script beginning league begins fault is =
+    subst (λ (f : ProgramFault). AnswersPlayOn room bytes script beginning (Err f)) (sym is.0) (league, begins, is.1)
+
+pub finds_not : (room : ℕ) (plan : SearchPlan) (bytes : List ℕ) (beginning : Option Beginning) (league : LeagueData)
+    → Begins bytes beginning league → (fault : ProgramFault) → (fault ≡ Room) × (max_room < room)
+    → AnswersFindOn room plan None bytes beginning (Err fault)
+finds_not room plan bytes beginning league begins fault is =
+    subst (λ (f : ProgramFault). AnswersFindOn room plan None bytes beginning (Err f)) (sym is.0) (league, begins, is.1)
 
 -- a league, with the room of a board, for a search
 module _ (room : ℕ) (plan : SearchPlan) (bytes : List ℕ) (beginning : Option Beginning) (league : LeagueData)
@@ -110,10 +138,9 @@ module _ (room : ℕ) (plan : SearchPlan) (bytes : List ℕ) (beginning : Option
       (search_text outcome, answers_find outcome None limits of_run tt, prefix, cause)
 
   -- or by why the run came to nothing
-  pub ends_refused : {W : Type 0} (held : W → Option (List ℕ)) (pushes : W → Tally) (sink : W) (why : RunFault) (board : Option Book)
-      → IsFor plan (book league room []) why board
-      → EndsOn held pushes (AnswersFindOn room plan None bytes beginning) sink sink (Err (of_run why))
-  ends_refused held pushes sink run.Workers board is = ((league, begins, room_is, is.0), refl)
-  ends_refused held pushes sink run.Spawn board is = ((league, begins, room_is, is.0), refl)
-  ends_refused held pushes sink run.Receipts board is = ((league, begins, room_is, is.0), refl)
-  ends_refused held pushes sink run.Memory board is = refl
+  pub run_fails : (why : RunFault) (board : Option Book) → IsFor plan (book league room []) why board → of_run why ≢ Memory
+      → AnswersFindOn room plan None bytes beginning (Err (of_run why))
+  run_fails run.Workers board is not_memory = (league, begins, room_is, is.0)
+  run_fails run.Spawn board is not_memory = (league, begins, room_is, is.0)
+  run_fails run.Receipts board is not_memory = (league, begins, room_is, is.0)
+  run_fails run.Memory board is not_memory = absurd (not_memory refl)

@@ -1,11 +1,14 @@
-//! The league that a command works on.
+//! The league that a command works on, and a board of it.
 
-ghost use Rattle.std.specs.Prelude.{◌≡◌, ◌≢◌, ◌≤◌, Err, IfErr, IfOk, IfSome, Ok, option_map};
+ghost use Rattle.std.specs.Prelude.{◌≡◌, ◌≢◌, ◌<◌, ◌≤◌, [], Err, IfErr, IfOk, IfSome, Ok, option_map};
+ghost use Rattle.choices.specs.Limits.{max_room};
+ghost use Rattle.fixture_board.specs.Record.{book};
 ghost use Rattle.league.specs.League.{IsLeague};
 ghost use Rattle.league.specs.Limits.{max_weight};
 ghost use Rattle.commands.specs.Begun.{begun_if, Begins, Refuses};
 
 use crate::fault::ProgramFault;
+use fixture_board::Board;
 use given_start::{BeginFault, Beginning, begin};
 use league::League;
 use league_json::read_league;
@@ -40,5 +43,17 @@ fn begun_at(
     match beginning {
         Some(beginning) => begin(alloc, league, beginning),
         None => Ok(league),
+    }
+}
+
+/// A board of that room at the league's start.
+pub(crate) fn board_of(alloc: Global, league: League, room: u32) -> Result<Board, ProgramFault>
+    ensures ok { IfOk result (λ board. board ≡ book league room []) }
+    ensures within { IfOk result (λ _. room ≤ max_room) }
+    ensures fault { IfErr result (λ fault. fault ≢ ProgramFault.Memory → (fault ≡ ProgramFault.Room) × (max_room < room)) }
+{
+    match Board::new(alloc, league, room) {
+        Ok(board) => Ok(board),
+        Err(refused) => Err(ProgramFault::from(refused.why)),
     }
 }

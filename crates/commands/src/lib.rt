@@ -26,7 +26,7 @@ pub use improvement::{ImprovePlan, LegEnded, NoWatcher, Watcher, Written};
 pub use league_command::{league, league_from, league_on};
 pub use league_csv::{DistanceFault, Settings};
 pub use play_command::{play, play_from, play_on};
-pub use policy::MAX_EFFORT;
+pub use policy::{MAX_EFFORT, MoveSet};
 pub use progress::{Extent, ProgressLine};
 pub use report_command::{report, report_from, report_on};
 pub use search::Outcome;

@@ -6,11 +6,10 @@ ghost use Rattle.std.specs.Str.Lines.{lines};
 ghost use Rattle.commands.specs.Outcome.{Ends, EndsOn};
 ghost use Rattle.commands.specs.Play.{AnswersPlay, AnswersPlayOn};
 
-use crate::begun::begun_league;
+use crate::begun::{begun_league, board_of};
 use crate::fault::{ProgramFault, after_writing};
 use board_texts::play_script;
 use byte_streams::{Sink, Source, read_all};
-use fixture_board::Board;
 use given_start::Beginning;
 use std::alloc::Global;
 use text_lines::split_input;
@@ -60,9 +59,6 @@ pub fn play_on<W: Sink>(
     ensures { EndsOn W.held W.tally (AnswersPlayOn room league.now (lines script.now) (option_map (λ b. b.now) beginning.entry)) sink.old sink.new result }
 {
     let league = begun_league(alloc, league, beginning)?;
-    let mut board = match Board::new(alloc, league, room) {
-        Ok(board) => board,
-        Err(refused) => return Err(ProgramFault::from(refused.why)),
-    };
+    let mut board = board_of(alloc, league, room)?;
     after_writing(play_script(&mut board, script, sink), ())
 }

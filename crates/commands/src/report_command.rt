@@ -1,8 +1,13 @@
 //! The command `report`.
 
-ghost use Rattle.std.specs.Prelude.{◌≤◌, IfSome, option_map};
+ghost use Rattle.std.specs.Prelude.{◌≡◌, ◌≤◌, IfSome, List, Ok, Option, Some, option_map, ℕ};
+ghost use Rattle.given_start.specs.declared.begun.Beginning.{Beginning as Given};
+ghost use Rattle.league.specs.League.{teams};
 ghost use Rattle.league.specs.Limits.{max_weight};
+ghost use Rattle.schedule_csv.specs.Table.{schedule_lines};
+ghost use Rattle.schedule_texts.specs.Judged.{IsJudgedBy};
 ghost use Rattle.std.specs.Str.Lines.{lines};
+ghost use Rattle.commands.specs.Begun.{Begins};
 ghost use Rattle.commands.specs.Outcome.{value_of, without_value, Ends, EndsOn};
 ghost use Rattle.commands.specs.Report.{AnswersReport, AnswersReportOn};
 
@@ -12,11 +17,12 @@ use crate::verdict::Verdict;
 use byte_streams::{Sink, Source, read_all};
 use choices::Format;
 use given_start::Beginning;
+use league::League;
 use league_hints::remarks_on;
 use report_page::{prepare, write_prepared};
 use report_text::is_feasible;
 use schedule_csv::schedule_text;
-use schedule_texts::judge;
+use schedule_texts::{Judged, judge};
 use std::alloc::Global;
 use text_lines::split_at_line;
 
@@ -67,16 +73,65 @@ pub fn report_on<W: Sink>(
         (AnswersReportOn format (value_of result) league.now (option_map (λ text. lines text.now) sheet.entry) (option_map (λ b. b.now) beginning.entry))
         sink.old sink.new (without_value result) }
 {
-    let text = league;
-    let league = begun_league(alloc, text, beginning)?;
+    let begun = begun_league(alloc, league, beginning)?;
+    report_in(alloc, league, &begun, sheet, sink, format)
+}
+
+/// As [`report_on`], in the league of this text that has begun.
+fn report_in<W: Sink>(
+    alloc: Global,
+    text: &[u8],
+    league: &League,
+    sheet: Option<&[u8]>,
+    sink: &mut W,
+    format: Format,
+) -> Result<Verdict, ProgramFault>
+    ensures { (beginning : Option Given) → Begins text.now beginning league.now → EndsOn W.held W.tally
+        (AnswersReportOn format (value_of result) text.now (option_map (λ text. lines text.now) sheet.entry) beginning)
+        sink.old sink.new (without_value result) }
+{
     let Some(given) = sheet else {
         return Err(ProgramFault::NoSheet);
     };
-    let given = schedule_text(alloc, &league, given)?;
-    let sheet = given.as_bytes();
-    let judged = judge(alloc, &league, sheet)?;
-    let verdict = Verdict::of(is_feasible(&judged, &league));
-    let prepared = prepare(alloc, format, &league, &judged, remarks_on(alloc, text)?)?;
-    let outcome = write_prepared(&league, sheet, &judged, &prepared, sink);
+    let given = schedule_text(alloc, league, given)?;
+    report_lines(alloc, text, league, given.as_bytes(), sink, format)
+}
+
+/// As [`report_in`], on the lines of a schedule.
+fn report_lines<W: Sink>(
+    alloc: Global,
+    text: &[u8],
+    league: &League,
+    sheet: &[u8],
+    sink: &mut W,
+    format: Format,
+) -> Result<Verdict, ProgramFault>
+    ensures { (given : Option (List (List ℕ))) (beginning : Option Given) → Begins text.now beginning league.now
+        → option_map (schedule_lines league.now) given ≡ Some (Ok (lines sheet.now))
+        → EndsOn W.held W.tally (AnswersReportOn format (value_of result) text.now given beginning) sink.old sink.new (without_value result) }
+{
+    let judged = judge(alloc, league, sheet)?;
+    report_judged(alloc, text, league, sheet, &judged, sink, format)
+}
+
+/// As [`report_lines`], where they were judged.
+fn report_judged<W: Sink>(
+    alloc: Global,
+    text: &[u8],
+    league: &League,
+    sheet: &[u8],
+    judged: &Judged,
+    sink: &mut W,
+    format: Format,
+) -> Result<Verdict, ProgramFault>
+    requires { IsJudgedBy (teams league.now) (lines sheet.now) judged.now }
+    ensures { (given : Option (List (List ℕ))) (beginning : Option Given) → Begins text.now beginning league.now
+        → option_map (schedule_lines league.now) given ≡ Some (Ok (lines sheet.now))
+        → EndsOn W.held W.tally (AnswersReportOn format (value_of result) text.now given beginning) sink.old sink.new (without_value result) }
+{
+    let verdict = Verdict::of(is_feasible(judged, league));
+    let remarks = remarks_on(alloc, text)?;
+    let prepared = prepare(alloc, format, league, judged, remarks)?;
+    let outcome = write_prepared(league, sheet, judged, &prepared, sink);
     after_writing(outcome, verdict)
 }

@@ -1,20 +1,26 @@
 //! The command `search`.
 
-ghost use Rattle.std.specs.Prelude.{◌≤◌, IfSome, option_map};
+ghost use Rattle.std.specs.Prelude.{◌≢◌, ◌≤◌, [], Err, IfErr, IfOk, IfSome, List, None, Option, option_map, ℕ};
+ghost use Rattle.choices.specs.Limits.{max_room};
+ghost use Rattle.fixture_board.specs.Record.{book};
+ghost use Rattle.given_start.specs.declared.begun.Beginning.{Beginning as Given};
+ghost use Rattle.league.specs.League.{IsLeague};
 ghost use Rattle.league.specs.Limits.{max_weight};
+ghost use Rattle.search.specs.Outcomes.{IsOutcome};
+ghost use Rattle.commands.specs.Begun.{Begins};
 ghost use Rattle.commands.specs.Outcome.{value_of, without_value, Ends, EndsOn};
 ghost use Rattle.commands.specs.Find.{AnswersFind, AnswersFindOn};
 
-use crate::begun::begun_league;
+use crate::begun::{begun_league, board_of};
 use crate::fault::{ProgramFault, after_writing};
 use crate::search_end::SearchEnd;
 use crate::search_text::search_report;
 use byte_streams::{Sink, Source, read_all};
 use choices::SearchPlan;
 use draws::{Gate, RunContext};
-use fixture_board::Board;
 use given_start::Beginning;
-use search::run_with;
+use league::League;
+use search::{Outcome, run_with};
 use std::sync::Wait;
 use std::thread::Threads;
 
@@ -70,16 +76,43 @@ pub fn find_on<T: Threads + Wait + Sync, G: Gate + Sync, W: Sink>(
         (AnswersFindOn room plan (value_of result) league.now (option_map (λ b. b.now) beginning.entry))
         sink.old sink.new (without_value result) }
 {
-    let alloc = run_context.alloc;
-    let league = begun_league(alloc, league, beginning)?;
-    let board = match Board::new(alloc, league.duplicate(alloc)?, room) {
-        Ok(board) => board,
-        Err(refused) => return Err(ProgramFault::from(refused.why)),
-    };
-    let outcome = match run_with(run_context, &league, board, plan) {
-        Ok(outcome) => outcome,
-        Err(refused) => return Err(ProgramFault::from(refused.why)),
-    };
+    let begun = begun_league(run_context.alloc, league, beginning)?;
+    find_in(run_context, &begun, sink, room, plan)
+}
+
+/// As [`find_on`], in a league that has begun.
+fn find_in<T: Threads + Wait + Sync, G: Gate + Sync, W: Sink>(
+    run_context: RunContext<'_, T, G>,
+    league: &League,
+    sink: &mut W,
+    room: u32,
+    plan: SearchPlan,
+) -> Result<SearchEnd, ProgramFault>
+    requires { IsLeague league.now }
+    ensures { (bytes : List ℕ) (beginning : Option Given) → Begins bytes beginning league.now
+        → EndsOn W.held W.tally (AnswersFindOn room plan (value_of result) bytes beginning) sink.old sink.new (without_value result) }
+{
+    let outcome = outcome_of(run_context, league, room, plan)?;
     let end = SearchEnd::of(&outcome.board);
     after_writing(search_report(&outcome, sink), end)
+}
+
+/// What the plan's workers come to on a new board.
+fn outcome_of<T: Threads + Wait + Sync, G: Gate + Sync>(
+    run_context: RunContext<'_, T, G>,
+    league: &League,
+    room: u32,
+    plan: SearchPlan,
+) -> Result<Outcome, ProgramFault>
+    ensures room { IfOk result (λ _. room ≤ max_room) }
+    ensures done { IfOk result (IsOutcome plan (book league.now room [])) }
+    ensures fault { IfErr result (λ fault. fault ≢ ProgramFault.Memory → (bytes : List ℕ) (beginning : Option Given)
+        → Begins bytes beginning league.now → AnswersFindOn room plan None bytes beginning (Err fault)) }
+{
+    let alloc = run_context.alloc;
+    let board = board_of(alloc, league.duplicate(alloc)?, room)?;
+    match run_with(run_context, league, board, plan) {
+        Ok(outcome) => Ok(outcome),
+        Err(refused) => Err(ProgramFault::from(refused.why)),
+    }
 }

@@ -24,10 +24,13 @@ pub(crate) fn told(alloc: Global, given: &[&str]) -> Result<String, Fail> {
     }
 }
 
-/// What the words ask for, or the kind of the error that they are answered with.
-fn asked(alloc: Global, given: &[&str]) -> Result<Result<Request, ErrorKind>, AllocError> {
+/// The job that the words ask for, or the kind of the error that they are answered with.
+fn asked(alloc: Global, given: &[&str]) -> Result<Result<Job, ErrorKind>, AllocError> {
     let words = words(alloc, given)?;
-    Ok(args(alloc, &words).map_err(|error| error.kind()))
+    match args(alloc, &words) {
+        Ok(request) => Ok(Ok(request.job)),
+        Err(error) => Ok(Err(error.kind())),
+    }
 }
 
 /// The plan where no option is given.
@@ -68,6 +71,27 @@ const JOBS: &[(&[&str], Job)] = &[
             seed: 1,
             effort: 10_000_000,
             seconds: None,
+            history: false,
+        },
+    ),
+    (
+        &["ttp", "improve", "--history", "--effort=0.001"],
+        Job::Improve {
+            workers: 2,
+            seed: 1,
+            effort: 1_000,
+            seconds: None,
+            history: true,
+        },
+    ),
+    (
+        &["ttp", "improve", "--effort", "12.50"],
+        Job::Improve {
+            workers: 2,
+            seed: 1,
+            effort: 12_500_000,
+            seconds: None,
+            history: false,
         },
     ),
     (
@@ -86,6 +110,7 @@ const JOBS: &[(&[&str], Job)] = &[
             seed: 7,
             effort: 1_000_000_000_000,
             seconds: Some(28800),
+            history: false,
         },
     ),
     (
@@ -173,11 +198,8 @@ const JOBS: &[(&[&str], Job)] = &[
 #[test]
 fn words_ask_for_jobs(rt: HostRuntime) -> Result<(), Fail> {
     for (given, wanted) in JOBS {
-        let job = match asked(rt.alloc(), given)? {
-            Ok(request) => Ok(request.job),
-            Err(kind) => Err(kind),
-        };
-        check_same_of(&rt, given, &job, &Ok(*wanted));
+        let found = asked(rt.alloc(), given)?;
+        check_same_of(&rt, given, &found, &Ok(*wanted));
     }
     Ok(())
 }
@@ -193,9 +215,11 @@ fn is_name(found: &Option<String>, wanted: Option<&str>) -> bool {
 /// The league's file, the second one, that of the start, the best schedule's, that of the legs, and what a league is called.
 type Names<'a> = [Option<&'a str>; 6];
 
+const NO_NAMES: Names<'_> = [None; 6];
+
 /// Words, and the names in them.
 const NAMES: &[(&[&str], Names<'_>)] = &[
-    (&["ttp", "play"], [None; 6]),
+    (&["ttp", "play"], NO_NAMES),
     (
         &["ttp", "report", "--from=c", "a", "--format=csv", "-"],
         [Some("a"), Some("-"), Some("c"), None, None, None],
@@ -231,24 +255,14 @@ fn are_names(found: &Request, wanted: &Names<'_>) -> bool {
         && is_name(&found.title, title)
 }
 
-#[test]
-fn words_name_files_and_leagues(rt: HostRuntime) -> Result<(), Fail> {
-    for (given, wanted) in NAMES {
-        let holds = match asked(rt.alloc(), given)? {
-            Ok(request) => are_names(&request, wanted),
-            Err(_) => false,
-        };
-        check_holds(&rt, given, holds);
-    }
-    Ok(())
-}
-
 /// The rounds and games that are kept, and what a moved game costs.
 type Kept<'a> = (&'a [u8], &'a [(u8, u8)], u32);
 
+const NOTHING_KEPT: Kept<'_> = (&[], &[], 0);
+
 /// Words, and what they keep.
 const KEPT: &[(&[&str], Kept<'_>)] = &[
-    (&["ttp", "improve"], (&[], &[], 0)),
+    (&["ttp", "improve"], NOTHING_KEPT),
     (
         &["ttp", "improve", "--keep", "1-3,5"],
         (&[0, 1, 2, 4], &[], 0),
@@ -277,14 +291,29 @@ fn is_kept(found: &Request, wanted: &Kept<'_>) -> bool {
         && found.beginning.near == near
 }
 
+/// What words name and keep, if they are taken.
+fn holds(
+    alloc: Global,
+    given: &[&str],
+    names: &Names<'_>,
+    kept: &Kept<'_>,
+) -> Result<bool, AllocError> {
+    let words = words(alloc, given)?;
+    match args(alloc, &words) {
+        Ok(request) => Ok(are_names(&request, names) && is_kept(&request, kept)),
+        Err(_) => Ok(false),
+    }
+}
+
 #[test]
-fn words_keep_rounds_and_games(rt: HostRuntime) -> Result<(), Fail> {
-    for (given, wanted) in KEPT {
-        let holds = match asked(rt.alloc(), given)? {
-            Ok(request) => is_kept(&request, wanted),
-            Err(_) => false,
-        };
-        check_holds(&rt, given, holds);
+fn words_name_files_and_keep_games(rt: HostRuntime) -> Result<(), Fail> {
+    for (given, names) in NAMES {
+        let are_named = holds(rt.alloc(), given, names, &NOTHING_KEPT)?;
+        check_holds(&rt, given, are_named);
+    }
+    for (given, kept) in KEPT {
+        let are_kept = holds(rt.alloc(), given, &NO_NAMES, kept)?;
+        check_holds(&rt, given, are_kept);
     }
     Ok(())
 }
@@ -315,8 +344,8 @@ const REFUSED: &[(&[&str], ErrorKind)] = &[
 #[test]
 fn words_that_ask_for_nothing_are_refused(rt: HostRuntime) -> Result<(), Fail> {
     for (given, wanted) in REFUSED {
-        let kind = asked(rt.alloc(), given)?.err();
-        check_same_of(&rt, given, &kind, &Some(*wanted));
+        let found = asked(rt.alloc(), given)?;
+        check_same_of(&rt, given, &found, &Err(*wanted));
     }
     Ok(())
 }

@@ -3,10 +3,13 @@
 
 ghost use Rattle.std.specs.Prelude.{None};
 
-use crate::tests::checks::check_same_of;
+use crate::tests::checks::{check_same, check_same_of};
+use crate::tests::circle::CIRCLE;
 use crate::tests::judged_schedules::FAULTY;
-use crate::tests::samples::{DISTANCES, FIND, NAMED, PLAY, REPORT, START, TABLE};
-use crate::tests::told::{Answer, Case, Command};
+use crate::tests::samples::{
+    DISTANCES, NAMED, NO_STEPS, NO_STEPS_MADE, PLAY, REPORT, START, TABLE,
+};
+use crate::tests::told::{Answer, Case, Command, Text, WRITTEN};
 use byte_streams::{
     MemorySink, MemorySource, RehearsedSink, RehearsedSource, Sink, Source, Step, Tally,
 };
@@ -21,10 +24,22 @@ use std::sync::Wait;
 use std::test::Fail;
 use std::thread::Threads;
 
-const SAMPLES: [Case<'_>; 7] = [START, PLAY, FIND, REPORT, FAULTY, TABLE, DISTANCES];
+/// What is run.
+#[derive(Clone, Copy, Debug)]
+enum Run {
+    Of(Command),
+    /// A search without a step.
+    Search,
+}
 
-fn run_from<T: Threads + Wait + Sync, R: Source, W: Sink>(
-    rt: &T,
+/// What is run, its input in parts, what it answers, and what it writes.
+type Sample<'a> = (Run, &'a [&'a str], Answer, Text<'a>);
+
+const CASES: [Case<'_>; 6] = [START, PLAY, REPORT, FAULTY, TABLE, DISTANCES];
+
+const SEARCH: Sample<'_> = (Run::Search, &[CIRCLE], WRITTEN, NO_STEPS_MADE);
+
+fn run_command<R: Source, W: Sink>(
     alloc: Global,
     command: Command,
     source: &mut R,
@@ -33,10 +48,6 @@ fn run_from<T: Threads + Wait + Sync, R: Source, W: Sink>(
     match command {
         Command::Start => start_from(alloc, source, sink)?,
         Command::Play { room } => play_from(alloc, source, sink, room)?,
-        Command::Find { room, plan } => {
-            let gate = &NoGate;
-            find_from(RunContext { rt, alloc, gate }, source, sink, room, plan)?;
-        }
         Command::Report(format) => return Ok(Some(report_from(alloc, source, sink, format)?)),
         Command::League => {
             league_from(alloc, source, sink, None, NAMED)?;
@@ -45,7 +56,31 @@ fn run_from<T: Threads + Wait + Sync, R: Source, W: Sink>(
     Ok(None)
 }
 
-/// The answer of a command, the calls of its source and of its sink, and what went out.
+fn run_from<T: Threads + Wait + Sync, R: Source, W: Sink>(
+    rt: &T,
+    alloc: Global,
+    run: Run,
+    source: &mut R,
+    sink: &mut W,
+) -> Answer {
+    match run {
+        Run::Of(command) => run_command(alloc, command, source, sink),
+        Run::Search => {
+            let gate = &NoGate;
+            find_from(RunContext { rt, alloc, gate }, source, sink, 8, NO_STEPS)?;
+            Ok(None)
+        }
+    }
+}
+
+/// What is run, and on which input.
+#[derive(Clone, Copy)]
+struct Asked<'a> {
+    run: Run,
+    input: &'a [u8],
+}
+
+/// An answer, the calls of its source and of its sink, and what went out.
 #[derive(Drop)]
 struct Ended {
     answer: Answer,
@@ -54,19 +89,18 @@ struct Ended {
     text: Vec<u8>,
 }
 
-/// How a command ends that reads and writes by these steps.
+/// How it ends where it reads and writes by these steps.
 fn run_by<T: Threads + Wait + Sync>(
     rt: &T,
     alloc: Global,
-    command: Command,
-    (input, reads): (&[u8], &[Step]),
-    writes: &[Step],
+    asked: Asked<'_>,
+    (reads, writes): (&[Step], &[Step]),
 ) -> Result<Ended, AllocError> {
     let mut buffer = [0; 1000];
     let mut memory = MemorySink::new(&mut buffer);
     let mut sink = RehearsedSink::new(&mut memory, writes);
-    let mut source = RehearsedSource::new(MemorySource::new(input), reads);
-    let answer = run_from(rt, alloc, command, &mut source, &mut sink);
+    let mut source = RehearsedSource::new(MemorySource::new(asked.input), reads);
+    let answer = run_from(rt, alloc, asked.run, &mut source, &mut sink);
     let (reads, writes) = (source.tally().calls, sink.tally().calls);
     let text = Vec::from_slice(alloc, memory.held())?;
     Ok(Ended {
@@ -75,6 +109,21 @@ fn run_by<T: Threads + Wait + Sync>(
         writes,
         text,
     })
+}
+
+/// It ends so where it reads and writes by these steps, and with as many writes. Tells how often it read.
+fn check_end<T: Threads + Wait + Sync + Abort>(
+    rt: &T,
+    alloc: Global,
+    asked: Asked<'_>,
+    (reads, writes): (&[Step], &[Step]),
+    (answer, text): (Answer, &[u8]),
+) -> Result<u64, Fail> {
+    let ended = run_by(rt, alloc, asked, (reads, writes))?;
+    let about = (asked.run, reads.len());
+    let found = (ended.answer, ended.writes, ended.text.as_slice());
+    check_same_of(rt, &about, &found, &(answer, writes.len() as u64, text));
+    Ok(ended.reads)
 }
 
 /// So many steps of a byte, each after so many interruptions.
@@ -92,80 +141,107 @@ fn bytes_after(alloc: Global, bytes: usize, interruptions: usize) -> Result<Vec<
 /// The interruptions before each byte that is read, and before each that is written.
 const INTERRUPTIONS: [(usize, usize); 3] = [(0, 0), (1, 1), (3, 999)];
 
-/// The command reads and writes single bytes, each after so many interruptions, one call for each.
+/// It reads and writes single bytes, each after so many interruptions, one call for each.
 fn check_single_bytes<T: Threads + Wait + Sync + Abort>(
     rt: &T,
     alloc: Global,
-    case: &Case<'_>,
+    asked: Asked<'_>,
+    (answer, text): (Answer, &[u8]),
     (before_reads, before_writes): (usize, usize),
 ) -> Result<(), Fail> {
-    let (command, input, answer, text) = *case;
-    let (input, text) = (input.concat(alloc)?, text.parts().concat(alloc)?);
-    let reads = bytes_after(alloc, input.len(), before_reads)?;
+    let reads = bytes_after(alloc, asked.input.len(), before_reads)?;
     let writes = bytes_after(alloc, text.len(), before_writes)?;
-    let ended = run_by(rt, alloc, command, (input.as_bytes(), &reads), &writes)?;
-    let found = (ended.answer, ended.writes, ended.text.as_slice());
-    let wanted = (answer, writes.len() as u64, text.as_bytes());
-    check_same_of(rt, &command, &found, &wanted);
+    check_end(rt, alloc, asked, (&reads, &writes), (answer, text))?;
     Ok(())
 }
 
-fn check_interruptions<T: Threads + Wait + Sync + Abort>(
-    rt: &T,
-    alloc: Global,
-    case: &Case<'_>,
-) -> Result<(), Fail> {
-    for interruptions in INTERRUPTIONS {
-        check_single_bytes(rt, alloc, case, interruptions)?;
-    }
-    Ok(())
-}
-
-#[test]
-fn each_command_goes_by_single_bytes_and_past_interruptions(rt: HostRuntime) -> Result<(), Fail> {
-    for case in &SAMPLES {
-        check_interruptions(&rt, rt.alloc(), case)?;
-    }
-    Ok(())
-}
-
-/// The command reads so many single bytes, stops at a failed read and writes nothing.
+/// It reads so many single bytes, stops at a failed read and writes nothing.
 fn check_failed_read<T: Threads + Wait + Sync + Abort>(
     rt: &T,
     alloc: Global,
-    command: Command,
-    input: &[u8],
+    asked: Asked<'_>,
     read: usize,
 ) -> Result<(), Fail> {
     let mut steps = bytes_after(alloc, read, 0)?;
     steps.push(Step::Failed)?;
-    let ended = run_by(rt, alloc, command, (input, &steps), &[])?;
-    let found = (ended.answer, ended.reads, ended.writes);
-    let wanted = (Err(ProgramFault::Read), steps.len() as u64, 0);
-    check_same_of(rt, &(command, read), &found, &wanted);
+    let wanted = (Err(ProgramFault::Read), b"".as_slice());
+    let calls = check_end(rt, alloc, asked, (&steps, &[]), wanted)?;
+    check_same(rt, &calls, &(steps.len() as u64));
     Ok(())
 }
 
-fn check_failed_reads<T: Threads + Wait + Sync + Abort>(
+/// Its writes take so many single bytes and then go by these steps, and it leaves a front of as many.
+fn check_front<T: Threads + Wait + Sync + Abort>(
     rt: &T,
     alloc: Global,
-    case: &Case<'_>,
+    asked: Asked<'_>,
+    front: &[u8],
+    last: &[Step],
 ) -> Result<(), Fail> {
-    let (command, input, _, _) = *case;
-    let input = input.concat(alloc)?;
-    // the last of them finds the end
-    for read in 0..=input.len() {
-        check_failed_read(rt, alloc, command, input.as_bytes(), read)?;
+    let mut steps = bytes_after(alloc, front.len(), 0)?;
+    steps.extend_from_slice(last)?;
+    let wanted = (Err(ProgramFault::Write), front);
+    check_end(rt, alloc, asked, (&[], &steps), wanted)?;
+    Ok(())
+}
+
+/// Its writes fail behind each fifth byte. One takes nothing, or is interrupted too often, at the first byte, at the second, in the middle and
+/// at the last.
+fn check_fronts<T: Threads + Wait + Sync + Abort>(
+    rt: &T,
+    alloc: Global,
+    asked: Asked<'_>,
+    text: &[u8],
+) -> Result<(), Fail> {
+    for length in 0..text.len() {
+        if length % 5 == 0 {
+            check_front(rt, alloc, asked, &text[..length], &[Step::Failed])?;
+        }
+    }
+    let last = text.len().saturating_sub(1);
+    for length in [0, 1, last / 2, last] {
+        let front = text.get(..length).ok_or("a longer text")?;
+        check_front(rt, alloc, asked, front, &[Step::Moved(0)])?;
+        check_front(rt, alloc, asked, front, &[Step::Again; 1000])?;
     }
     Ok(())
+}
+
+fn check_ends<T: Threads + Wait + Sync + Abort>(
+    rt: &T,
+    alloc: Global,
+    asked: Asked<'_>,
+    (answer, text): (Answer, &[u8]),
+) -> Result<(), Fail> {
+    for interruptions in INTERRUPTIONS {
+        check_single_bytes(rt, alloc, asked, (answer, text), interruptions)?;
+    }
+    // the last of them finds the end
+    for read in 0..=asked.input.len() {
+        check_failed_read(rt, alloc, asked, read)?;
+    }
+    check_fronts(rt, alloc, asked, text)
+}
+
+fn check_sample<T: Threads + Wait + Sync + Abort>(
+    rt: &T,
+    alloc: Global,
+    (run, input, answer, text): Sample<'_>,
+) -> Result<(), Fail> {
+    let (input, text) = (input.concat(alloc)?, text.parts().concat(alloc)?);
+    let asked = Asked {
+        run,
+        input: input.as_bytes(),
+    };
+    check_ends(rt, alloc, asked, (answer, text.as_bytes()))
 }
 
 #[test]
-fn each_command_stops_at_any_failed_read(rt: HostRuntime) -> Result<(), Fail> {
-    for case in &SAMPLES {
-        check_failed_reads(&rt, rt.alloc(), case)?;
+fn each_command_ends_as_its_calls_do(rt: HostRuntime) -> Result<(), Fail> {
+    for &(command, input, answer, text) in &CASES {
+        check_sample(&rt, rt.alloc(), (Run::Of(command), input, answer, text))?;
     }
-    Ok(())
+    check_sample(&rt, rt.alloc(), SEARCH)
 }
 
 /// Is interrupted at each call.
@@ -185,105 +261,16 @@ impl Source for Interrupted {
     }
 }
 
-fn check_interrupted<T: Threads + Wait + Sync + Abort>(rt: &T, alloc: Global, command: Command) {
+#[test]
+fn reads_that_are_all_interrupted_are_given_up(rt: HostRuntime) {
     let mut source = Interrupted {
         tally: Tally::new(),
     };
-    let mut buffer = [0; 1000];
+    let mut buffer = [0; 1];
     let mut sink = MemorySink::new(&mut buffer);
-    let answer = run_from(rt, alloc, command, &mut source, &mut sink);
+    let answer = start_from(rt.alloc(), &mut source, &mut sink);
     let found = (answer, source.tally.calls, sink.tally().calls);
-    let wanted = (Err(ProgramFault::Read), 8_388_608, 0);
-    check_same_of(rt, &command, &found, &wanted);
-}
-
-#[test]
-fn reads_that_are_all_interrupted_are_given_up(rt: HostRuntime) {
-    check_interrupted(&rt, rt.alloc(), Command::Start);
-}
-
-/// A command, its input, and the text that it writes.
-#[derive(Drop)]
-struct Writing {
-    command: Command,
-    input: String,
-    text: String,
-}
-
-fn writing_of(alloc: Global, case: &Case<'_>) -> Result<Writing, AllocError> {
-    let (command, input, _, text) = *case;
-    let (input, text) = (input.concat(alloc)?, text.parts().concat(alloc)?);
-    Ok(Writing {
-        command,
-        input,
-        text,
-    })
-}
-
-/// A command whose writes take so many single bytes of its text and then go by these steps leaves a prefix of as many.
-fn check_front<T: Threads + Wait + Sync + Abort>(
-    rt: &T,
-    alloc: Global,
-    told: &Writing,
-    front: &[u8],
-    last: &[Step],
-) -> Result<(), Fail> {
-    let mut steps = bytes_after(alloc, front.len(), 0)?;
-    steps.extend_from_slice(last)?;
-    let (command, input) = (told.command, told.input.as_bytes());
-    let ended = run_by(rt, alloc, command, (input, &[]), &steps)?;
-    let found = (ended.answer, ended.writes, ended.text.as_slice());
-    let wanted = (Err(ProgramFault::Write), steps.len() as u64, front);
-    check_same_of(rt, &command, &found, &wanted);
-    Ok(())
-}
-
-/// The command's writes fail behind each fifth byte.
-fn check_failed_writes<T: Threads + Wait + Sync + Abort>(
-    rt: &T,
-    alloc: Global,
-    case: &Case<'_>,
-) -> Result<(), Fail> {
-    let told = writing_of(alloc, case)?;
-    for length in 0..told.text.len() {
-        if length % 5 == 0 {
-            let front = &told.text.as_bytes()[..length];
-            check_front(rt, alloc, &told, front, &[Step::Failed])?;
-        }
-    }
-    Ok(())
-}
-
-#[test]
-fn each_command_leaves_a_front_wherever_a_write_fails(rt: HostRuntime) -> Result<(), Fail> {
-    for case in &SAMPLES {
-        check_failed_writes(&rt, rt.alloc(), case)?;
-    }
-    Ok(())
-}
-
-/// A write takes nothing, or is interrupted too often, at the first byte, at the second, in the middle and at the last.
-fn check_stuck_writes<T: Threads + Wait + Sync + Abort>(
-    rt: &T,
-    alloc: Global,
-    case: &Case<'_>,
-) -> Result<(), Fail> {
-    let told = writing_of(alloc, case)?;
-    let last = told.text.len().saturating_sub(1);
-    for length in [0, 1, last / 2, last] {
-        let front = told.text.as_bytes().get(..length).ok_or("a longer text")?;
-        check_front(rt, alloc, &told, front, &[Step::Moved(0)])?;
-        check_front(rt, alloc, &told, front, &[Step::Again; 1000])?;
-    }
-    Ok(())
-}
-
-#[test]
-fn each_command_leaves_a_front_where_a_write_takes_nothing(rt: HostRuntime) -> Result<(), Fail> {
-    for case in &SAMPLES {
-        check_stuck_writes(&rt, rt.alloc(), case)?;
-    }
-    Ok(())
+    check_same(&rt, &found, &(Err(ProgramFault::Read), 8_388_608, 0));
 }
 
 /// Inputs that a command takes for no league, and why.
@@ -304,31 +291,19 @@ const REFUSED_TABLES: [(&[u8], ProgramFault); 2] = [
     ),
 ];
 
-fn check_no_write<T: Threads + Wait + Sync + Abort>(
-    rt: &T,
-    alloc: Global,
-    command: Command,
-    (input, fault): (&[u8], ProgramFault),
-) -> Result<(), Fail> {
-    let ended = run_by(rt, alloc, command, (input, &[]), &[])?;
-    let found = (ended.answer, ended.writes);
-    check_same_of(rt, &command, &found, &(Err(fault), 0));
-    Ok(())
-}
-
 fn check_no_writes<T: Threads + Wait + Sync + Abort>(
     rt: &T,
     alloc: Global,
-    command: Command,
+    run: Run,
     too_long: &[u8],
 ) -> Result<(), Fail> {
-    check_no_write(rt, alloc, command, (too_long, ProgramFault::TooLong))?;
-    let refused = match command {
-        Command::League => REFUSED_TABLES,
+    let [first, second] = match run {
+        Run::Of(Command::League) => REFUSED_TABLES,
         _ => REFUSED_LEAGUES,
     };
-    for (input, fault) in refused {
-        check_no_write(rt, alloc, command, (input, fault))?;
+    for (input, fault) in [first, second, (too_long, ProgramFault::TooLong)] {
+        let asked = Asked { run, input };
+        check_end(rt, alloc, asked, (&[], &[]), (Err(fault), b""))?;
     }
     Ok(())
 }
@@ -336,8 +311,8 @@ fn check_no_writes<T: Threads + Wait + Sync + Abort>(
 #[test]
 fn no_command_writes_before_a_fault_of_its_input(rt: HostRuntime) -> Result<(), Fail> {
     let blanks = vec![in rt.alloc(); b' '; 4_194_305]?;
-    for (command, ..) in &SAMPLES {
-        check_no_writes(&rt, rt.alloc(), *command, &blanks)?;
+    for (command, ..) in &CASES {
+        check_no_writes(&rt, rt.alloc(), Run::Of(*command), &blanks)?;
     }
-    Ok(())
+    check_no_writes(&rt, rt.alloc(), Run::Search, &blanks)
 }

@@ -1,10 +1,10 @@
 //! The files that follow an improvement: the best schedule so far, and a line for each leg, on a disk on which each call fails in turn.
 
-use crate::tests::checks::{check_same, check_same_of};
+use crate::tests::checks::check_same_of;
 use crate::tests::memory_disk::Disk;
 use byte_streams::{BufferedSink, MemorySink};
 use cli::Follower;
-use commands::{ImprovePlan, LegEnded, Watcher, Written};
+use commands::{ImprovePlan, LegEnded, MoveSet, Watcher, Written};
 use fixture_board::{Ask, Board, Change};
 use league::{League, circular};
 use moves::Move;
@@ -21,6 +21,9 @@ use std::time::Clock;
 const FIRST: LegEnded = LegEnded {
     number: 1,
     chain: 1,
+    moves: MoveSet::Rigid,
+    from: 2_666,
+    to: 666,
     steps: 43_750,
     accepted: 18_000,
     hard: 3,
@@ -31,6 +34,9 @@ const FIRST: LegEnded = LegEnded {
 const SECOND: LegEnded = LegEnded {
     number: 2,
     chain: 7,
+    moves: MoveSet::Partial,
+    from: 900,
+    to: 12_070,
     steps: 700,
     accepted: 0,
     hard: 0,
@@ -39,12 +45,18 @@ const SECOND: LegEnded = LegEnded {
 };
 
 /// Four teams in a circle at their start, and after an exchange.
-const START: &str = "history 0\nend\nleague 4 teams 6 rounds\n\
+const START: &str = "league 4 teams 6 rounds\n\
     team 1 HHAAAH T1\nteam 2 HAHAHA T2\nteam 3 AAHHHA T3\nteam 4 AHAHAH T4\n\
     round 1: 1-4 2-3\nround 2: 1-2 4-3\nround 3: 2-4 3-1\n\
-    round 4: 3-2 4-1\nround 5: 2-1 3-4\nround 6: 1-3 4-2\nbest 30 at 0\n";
+    round 4: 3-2 4-1\nround 5: 2-1 3-4\nround 6: 1-3 4-2\nbest 30\n";
 
-const EXCHANGED: &str = "history 1\nhomes 1 2\nend\nleague 4 teams 6 rounds\n\
+const EXCHANGED: &str = "league 4 teams 6 rounds\n\
+    team 1 HAAAHH T1\nteam 2 HHHAAA T2\nteam 3 AAHHHA T3\nteam 4 AHAHAH T4\n\
+    round 1: 1-4 2-3\nround 2: 2-1 4-3\nround 3: 2-4 3-1\n\
+    round 4: 3-2 4-1\nround 5: 1-2 3-4\nround 6: 1-3 4-2\nbest 26\n";
+
+/// With its history.
+const WITH_HISTORY: &str = "history 1\nhomes 1 2\nend\nleague 4 teams 6 rounds\n\
     team 1 HAAAHH T1\nteam 2 HHHAAA T2\nteam 3 AAHHHA T3\nteam 4 AHAHAH T4\n\
     round 1: 1-4 2-3\nround 2: 2-1 4-3\nround 3: 2-4 3-1\n\
     round 4: 3-2 4-1\nround 5: 1-2 3-4\nround 6: 1-3 4-2\nbest 26 at 1\n";
@@ -68,6 +80,7 @@ const PLAN: ImprovePlan = ImprovePlan {
     seed: 1,
     effort: 1_000_000,
     first: None,
+    history: false,
 };
 
 /// A leg ends. A follower doesn't ask what was written by then: nothing here.
@@ -99,20 +112,28 @@ fn end_legs<R: Files + Clock + Eprint>(follower: &mut Follower<'_, R>, board: &m
     end_leg(follower, SECOND, Some(board), board.league());
 }
 
-/// Legs end. Tells whether the file ever couldn't be written, or nothing if it was refused at once.
+/// The legs end. Tells whether a file ever couldn't be written, or nothing if it was refused at once.
 fn follow<'a, R: Files + Clock + Eprint>(
     disk: &'a R,
     alloc: Global,
     words: &'a FileWords,
+    history: bool,
     board: &mut Board,
 ) -> Option<bool> {
-    match Follower::new(disk, alloc, words) {
+    match Follower::new(disk, alloc, words, history) {
         Ok(mut follower) => {
             end_legs(&mut follower, board);
             Some(follower.has_failed())
         }
         Err(_) => None,
     }
+}
+
+/// The legs end with the words `--output best.txt` or `--log legs.txt`.
+fn followed(disk: &Disk, alloc: Global, output: bool, history: bool) -> Result<Option<bool>, Fail> {
+    let words = words(alloc, output)?;
+    let mut board = Board::new(alloc, circular(alloc, 4)?, 2)?;
+    Ok(follow(disk, alloc, &words, history, &mut board))
 }
 
 /// Before the first leg it is looked up, as what it is and as a link.
@@ -131,41 +152,29 @@ const MESSAGE: &str = "ttp: best.txt: cannot be written\n";
 /// The answer, what stands in the file and what was said.
 type Found<'a> = (Option<bool>, Option<&'a str>, Option<&'a str>);
 
-/// The file where the machine stops after so many calls.
-fn after_a_stop(good: u64) -> Found<'static> {
-    if good < TRIED {
-        (None, None, None)
-    } else if good < TRIED + PUT {
-        (Some(true), None, Some(MESSAGE))
-    } else if good < ALL {
-        (Some(true), Some(START), Some(MESSAGE))
-    } else {
-        (Some(false), Some(EXCHANGED), None)
-    }
-}
+const REFUSED: Found<'_> = (None, None, None);
 
-/// The file where one call fails after so many.
-fn after_a_failure(good: u64) -> Found<'static> {
-    if good < LOOKED_UP || ALL <= good {
-        // a file that can't be looked up may still be written
-        (Some(false), Some(EXCHANGED), None)
-    } else if good < TRIED {
-        (None, None, None)
-    } else if good < TRIED + PUT {
-        (Some(true), Some(EXCHANGED), Some(MESSAGE))
-    } else {
-        (Some(true), Some(START), Some(MESSAGE))
-    }
-}
+const WHOLE: Found<'_> = (Some(false), Some(EXCHANGED), None);
 
-/// The file on a disk on which a call fails after so many, and if it stops all after that one.
-fn after(good: u64, stops: bool) -> Found<'static> {
-    if stops {
-        after_a_stop(good)
-    } else {
-        after_a_failure(good)
-    }
-}
+const NOT_THE_FIRST: Found<'_> = (Some(true), Some(EXCHANGED), Some(MESSAGE));
+
+const NOT_THE_SECOND: Found<'_> = (Some(true), Some(START), Some(MESSAGE));
+
+const NEITHER: Found<'_> = (Some(true), None, Some(MESSAGE));
+
+/// Whether the machine stops where a call fails, after how many calls, from and below, that is, and what is found then.
+const FOUND: [(bool, u64, u64, Found<'_>); 9] = [
+    (true, 0, TRIED, REFUSED),
+    (true, TRIED, TRIED + PUT, NEITHER),
+    (true, TRIED + PUT, ALL, NOT_THE_SECOND),
+    (true, ALL, ALL + 1, WHOLE),
+    // a file that can't be looked up may still be written
+    (false, 0, LOOKED_UP, WHOLE),
+    (false, LOOKED_UP, TRIED, REFUSED),
+    (false, TRIED, TRIED + PUT, NOT_THE_FIRST),
+    (false, TRIED + PUT, ALL, NOT_THE_SECOND),
+    (false, ALL, ALL + 1, WHOLE),
+];
 
 fn text(bytes: &Option<Vec<u8>>) -> Option<&str> {
     match bytes {
@@ -174,96 +183,75 @@ fn text(bytes: &Option<Vec<u8>>) -> Option<&str> {
     }
 }
 
-/// Four teams in a circle.
-fn board(alloc: Global) -> Result<Board, Fail> {
-    Ok(Board::new(alloc, circular(alloc, 4)?, 2)?)
-}
-
-/// The legs end with the words `--output best.txt`.
-fn followed(disk: &Disk, alloc: Global) -> Result<Option<bool>, Fail> {
-    let words = words(alloc, true)?;
-    let mut board = board(alloc)?;
-    Ok(follow(disk, alloc, &words, &mut board))
-}
-
 /// On the disk is what has to be found after the legs.
-fn check_found(rt: &impl Abort, alloc: Global, good: u64, stops: bool) -> Result<(), Fail> {
+fn check_found(
+    rt: &impl Abort,
+    alloc: Global,
+    (good, stops): (u64, bool),
+    wanted: &Found<'_>,
+) -> Result<(), Fail> {
     let disk = Disk::new(alloc, good, stops)?;
-    let answer = followed(&disk, alloc)?;
+    let answer = followed(&disk, alloc, true, false)?;
     let (file, said) = (disk.found("best.txt")?, disk.said()?);
     let found = (answer, text(&file), text(&said));
-    check_same_of(rt, &(stops, good), &found, &after(good, stops));
+    check_same_of(rt, &(stops, good), &found, wanted);
     Ok(())
 }
 
 #[test]
 fn best_schedule_is_whole_whichever_call_fails(rt: HostRuntime) -> Result<(), Fail> {
-    for good in 0..=ALL {
-        check_found(&rt, rt.alloc(), good, false)?;
-    }
-    Ok(())
-}
-
-#[test]
-fn best_schedule_is_whole_wherever_the_machine_stops(rt: HostRuntime) -> Result<(), Fail> {
-    for good in 0..=ALL {
-        check_found(&rt, rt.alloc(), good, true)?;
+    for (stops, from, below, wanted) in FOUND {
+        for good in from..below {
+            check_found(&rt, rt.alloc(), (good, stops), &wanted)?;
+        }
     }
     Ok(())
 }
 
 const LINES: &str = "\
-    {\"leg\":1,\"chain\":1,\"seconds\":0.250,\"steps\":43750,\"accepted\":18000,\"hard\":3,\"best\":null,\"least\":null}\n\
-    {\"leg\":2,\"chain\":7,\"seconds\":0.500,\"steps\":700,\"accepted\":0,\"hard\":0,\"best\":1235,\"least\":1234}\n";
+    {\"leg\":1,\"chain\":1,\"moves\":[\"homes\",\"teams\"],\"from\":2.666,\"to\":0.666,\
+    \"seconds\":0.250,\"steps\":43750,\"accepted\":18000,\"hard\":3,\"best\":null,\"least\":null}\n\
+    {\"leg\":2,\"chain\":7,\"moves\":[\"homes\",\"part-rounds\",\"part-rounds\",\"part-teams\",\"part-teams\"],\"from\":0.900,\"to\":12.070,\
+    \"seconds\":0.500,\"steps\":700,\"accepted\":0,\"hard\":0,\"best\":1235,\"least\":1234}\n\
+    {\"leg\":2,\"chain\":7,\"moves\":[\"homes\",\"part-rounds\",\"part-rounds\",\"part-teams\",\"part-teams\"],\"from\":0.900,\"to\":12.070,\
+    \"seconds\":0.750,\"steps\":700,\"accepted\":0,\"hard\":0,\"best\":1235,\"least\":1234}\n";
 
 /// The first line was torn off after 64 bytes.
-const TORN: &str = "{\"leg\":1,\"chain\":1,\"seconds\":0.250,\"steps\":43750,\"accepted\":1800\n\
-    {\"leg\":2,\"chain\":7,\"seconds\":0.500,\"steps\":700,\"accepted\":0,\"hard\":0,\"best\":1235,\"least\":1234}\n";
+const TORN: &str = "\
+    {\"leg\":1,\"chain\":1,\"moves\":[\"homes\",\"teams\"],\"from\":2.666,\"to\":0\n\
+    {\"leg\":2,\"chain\":7,\"moves\":[\"homes\",\"part-rounds\",\"part-rounds\",\"part-teams\",\"part-teams\"],\"from\":0.900,\"to\":12.070,\
+    \"seconds\":0.500,\"steps\":700,\"accepted\":0,\"hard\":0,\"best\":1235,\"least\":1234}\n\
+    {\"leg\":2,\"chain\":7,\"moves\":[\"homes\",\"part-rounds\",\"part-rounds\",\"part-teams\",\"part-teams\"],\"from\":0.900,\"to\":12.070,\
+    \"seconds\":0.750,\"steps\":700,\"accepted\":0,\"hard\":0,\"best\":1235,\"least\":1234}\n";
 
-/// How many calls don't fail, what stands in the log, and whether it ever couldn't be written.
-const LOGS: [(u64, &str, bool); 2] = [(6, LINES, false), (3, TORN, true)];
+/// Whether the best schedule is to be written or the log, and with a history, how many calls don't fail before one that does, what stands in
+/// the file, and whether it ever couldn't be written.
+const FILES: [(bool, bool, u64, &str, bool); 3] = [
+    (true, true, ALL, WITH_HISTORY, false),
+    // the log is looked up and made, and each line takes three writes
+    (false, false, 11, LINES, false),
+    (false, false, 3, TORN, true),
+];
 
-/// Two legs end without a schedule. Tells whether the log ever couldn't be written, or nothing if it was refused at once.
-fn log_legs<'a, R: Files + Clock + Eprint>(
-    disk: &'a R,
-    alloc: Global,
-    words: &'a FileWords,
-    league: &League,
-) -> Option<bool> {
-    match Follower::new(disk, alloc, words) {
-        Ok(mut follower) => {
-            end_leg(&mut follower, FIRST, None, league);
-            end_leg(&mut follower, SECOND, None, league);
-            Some(follower.has_failed())
-        }
-        Err(_) => None,
-    }
-}
-
-fn check_log(
+fn check_file(
     rt: &impl Abort,
     alloc: Global,
-    good: u64,
-    lines: &str,
-    fails: bool,
+    (output, history, good, lines, fails): (bool, bool, u64, &str, bool),
 ) -> Result<(), Fail> {
     let disk = Disk::new(alloc, good, false)?;
-    let board = board(alloc)?;
-    let answer = log_legs(&disk, alloc, &words(alloc, false)?, board.league());
-    let log = disk.found("legs.txt")?;
-    check_same_of(
-        rt,
-        &good,
-        &(answer, text(&log)),
-        &(Some(fails), Some(lines)),
-    );
+    let answer = followed(&disk, alloc, output, history)?;
+    let file = disk.found(if output { "best.txt" } else { "legs.txt" })?;
+    let found = (answer, text(&file));
+    check_same_of(rt, &good, &found, &(Some(fails), Some(lines)));
     Ok(())
 }
 
 #[test]
-fn each_leg_has_a_line_in_the_log(rt: HostRuntime) -> Result<(), Fail> {
-    for (good, lines, fails) in LOGS {
-        check_log(&rt, rt.alloc(), good, lines, fails)?;
+fn each_leg_has_a_line_in_the_log_and_a_history_stands_where_it_is_wanted(
+    rt: HostRuntime,
+) -> Result<(), Fail> {
+    for file in FILES {
+        check_file(&rt, rt.alloc(), file)?;
     }
     Ok(())
 }

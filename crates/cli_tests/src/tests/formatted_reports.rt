@@ -12,9 +12,7 @@ use csv::{ByteRecord, ReaderBuilder};
 use std::alloc::Global;
 use std::process::Abort;
 use std::str;
-use std::sync::Wait;
 use std::test::Fail;
-use std::thread::Threads;
 
 const CASES: &[Case<'_>] = &[
     TABLE,
@@ -81,13 +79,9 @@ const RECORDS: [[&str; 5]; 12] = [
 ];
 
 /// The report of that league and its start, which is feasible.
-pub(crate) fn marked<T: Threads + Wait + Sync + Abort>(
-    rt: &T,
-    alloc: Global,
-    format: Format,
-) -> Result<Vec<u8>, Fail> {
+pub(crate) fn marked(rt: &impl Abort, alloc: Global, format: Format) -> Result<Vec<u8>, Fail> {
     let input = [MARKED, JUDGED, SHEET].concat(alloc)?;
-    let told = tell(rt, alloc, Command::Report(format), input.as_bytes())?;
+    let told = tell(alloc, Command::Report(format), input.as_bytes())?;
     check_same(rt, &told.answer, &Ok(Some(Verdict::Feasible)));
     Ok(told.text)
 }
@@ -146,7 +140,7 @@ fn no_cell_is_a_formula(rt: HostRuntime) -> Result<(), Fail> {
     let input = [FORMULAS, JUDGED, SHEET].concat(rt.alloc())?;
     for (form, wanted) in GUARDED {
         let command = Command::Report(Format::Csv(form));
-        let told = tell(&rt, rt.alloc(), command, input.as_bytes())?;
+        let told = tell(rt.alloc(), command, input.as_bytes())?;
         check_holds(&rt, &wanted, told.text.starts_with(wanted.as_bytes()));
     }
     Ok(())
@@ -215,7 +209,7 @@ fn check_front(
 fn page_leaves_a_front_wherever_a_write_fails(rt: HostRuntime) -> Result<(), Fail> {
     let (command, parts, _, _) = PAGE;
     let input = parts.concat(rt.alloc())?;
-    let page = tell(&rt, rt.alloc(), command, input.as_bytes())?;
+    let page = tell(rt.alloc(), command, input.as_bytes())?;
     for length in (1..page.text.len()).step_by(100) {
         check_front(&rt, rt.alloc(), input.as_str(), &page.text, length)?;
     }

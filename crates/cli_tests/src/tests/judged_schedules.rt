@@ -1,7 +1,6 @@
 //! Reports: what known schedules cost, a line for each kind of fault, and inputs that have no report. The expected lines are those of
 //! scripts/parts/reports.py, which shares no code with the crates.
 
-use crate::tests::checks::check_same;
 use crate::tests::circle::{CIRCLE, FIRST, FOUR, SHEET, THIRD};
 use crate::tests::samples::{COST, JUDGED, REPORT};
 use crate::tests::told::Text::Whole;
@@ -9,8 +8,6 @@ use crate::tests::told::{Case, Command, NOTHING, TEXT_REPORT, Text, check_case, 
 use commands::ProgramFault::{League, NoSheet};
 use commands::{Format, Verdict};
 use league::LeagueFault::NotJson;
-use league_json::read_league;
-use schedule_texts::judge;
 use std::test::Fail;
 
 /// The lines of the start in another order, with other blanks and line ends.
@@ -219,15 +216,4 @@ fn report_of_a_start_is_its_sheet_and_cost(rt: HostRuntime) -> Result<(), Fail> 
 #[test]
 fn reports_name_what_costs_and_what_is_wrong(rt: HostRuntime) -> Result<(), Fail> {
     check_cases(&rt, rt.alloc(), CASES)
-}
-
-#[test]
-fn a_judged_schedule_can_be_kept(rt: HostRuntime) -> Result<(), Fail> {
-    let league = read_league(rt.alloc(), CIRCLE.as_bytes())?;
-    let start = league.start(rt.alloc())?;
-    let judged = judge(rt.alloc(), &league, SHEET.as_bytes())?;
-    let kept = judged.into_schedule();
-    let is_start = kept.map(|schedule| schedule.is_same(&start));
-    check_same(&rt, &is_start, &Some(true));
-    Ok(())
 }

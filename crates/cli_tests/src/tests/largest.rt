@@ -4,14 +4,13 @@
 use crate::tests::checks::{check_holds, check_same};
 use crate::tests::closings::{closing, script};
 use crate::tests::samples::SCRIPT;
+use crate::tests::searches::found;
 use crate::tests::told::Text::Excerpt;
 use crate::tests::told::{Command, PLAY_OF_1024, Text, WRITTEN, check_case, tell};
 use commands::SearchPlan;
 use std::alloc::{AllocError, Global};
 use std::process::Abort;
-use std::sync::Wait;
 use std::test::Fail;
-use std::thread::Threads;
 
 const NAME: &str = "\"0123456789012345678901234567890123456789\"";
 
@@ -94,15 +93,15 @@ const LEAGUES: [(&str, u8, &str, &str, &str); 2] = [
 ];
 
 /// The script's play text begins so, with the rest behind, and ends so.
-fn check_costs<T: Threads + Wait + Sync + Abort>(
-    rt: &T,
+fn check_costs(
+    rt: &impl Abort,
     alloc: Global,
     league: &str,
     begins: &str,
     ends: &str,
 ) -> Result<(), Fail> {
     let input = [league, SCRIPT, LINES].concat(alloc)?;
-    let played = tell(rt, alloc, PLAY_OF_1024, input.as_bytes())?;
+    let played = tell(alloc, PLAY_OF_1024, input.as_bytes())?;
     check_same(rt, &played.answer, &WRITTEN);
     let front = [begins, REST].concat(alloc)?;
     let does_begin = played.text.as_slice().starts_with(front.as_bytes());
@@ -143,25 +142,22 @@ fn the_largest_league_has_a_start(rt: HostRuntime) -> Result<(), Fail> {
 }
 
 /// A search of six steps by one worker.
-const SIX_STEPS: Command = Command::Find {
-    room: 64,
-    plan: SearchPlan {
-        workers: 1,
-        seed: 1,
-        steps: 6,
-        slack: u64::MAX,
-    },
+const SIX_STEPS: SearchPlan = SearchPlan {
+    workers: 1,
+    seed: 1,
+    steps: 6,
+    slack: u64::MAX,
 };
 
 /// The history, played as a script, leads to the same history.
-fn check_played_again<T: Threads + Wait + Sync + Abort>(
-    rt: &T,
+fn check_played_again(
+    rt: &impl Abort,
     alloc: Global,
     league: &str,
     history: &str,
 ) -> Result<(), Fail> {
     let input = [league, SCRIPT, script(history)].concat(alloc)?;
-    let played = tell(rt, alloc, Command::Play { room: 64 }, input.as_bytes())?;
+    let played = tell(alloc, Command::Play { room: 64 }, input.as_bytes())?;
     let Some((again, _)) = closing(&played.text) else {
         return Err(Fail::new("no history"));
     };
@@ -171,16 +167,16 @@ fn check_played_again<T: Threads + Wait + Sync + Abort>(
 
 /// A worker's claims are the board's scores, so that each of its proposals is accepted, and is again when its history is
 /// played.
-fn check_search<T: Threads + Wait + Sync + Abort>(
-    rt: &T,
+fn check_search(
+    rt: &impl Abort,
     alloc: Global,
     league: &str,
+    found: &[u8],
     best: &str,
 ) -> Result<(), Fail> {
-    let found = tell(rt, alloc, SIX_STEPS, league.as_bytes())?;
     let text = Excerpt("", &[" refused 0\n", best], "");
-    check_holds(rt, &best, text.is_told(&found.text));
-    let Some((history, _)) = closing(&found.text) else {
+    check_holds(rt, &best, text.is_told(found));
+    let Some((history, _)) = closing(found) else {
         return Err(Fail::new("no history"));
     };
     check_holds(rt, &history, history != "0");
@@ -191,7 +187,8 @@ fn check_search<T: Threads + Wait + Sync + Abort>(
 fn the_largest_leagues_are_searched(rt: HostRuntime) -> Result<(), Fail> {
     for (kind, at_most, _, _, best) in LEAGUES {
         let league = largest(rt.alloc(), kind, at_most)?;
-        check_search(&rt, rt.alloc(), league.as_str(), best)?;
+        let told = found(&rt, rt.alloc(), league.as_str(), 64, SIX_STEPS)?;
+        check_search(&rt, rt.alloc(), league.as_str(), &told.text, best)?;
     }
     Ok(())
 }

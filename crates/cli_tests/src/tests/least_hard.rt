@@ -1,14 +1,14 @@
 //! The lines about a board without a feasible schedule, where an improvement ends with it.
 
-use crate::tests::checks::check_same;
+use crate::tests::checks::check_holds;
 use crate::tests::told::Text::{self, Excerpt};
-use board_texts::{write_found, write_improved};
+use board_texts::write_improved;
 use byte_streams::{BufferedSink, MemorySink};
 use fixture_board::{Ask, Board, Change};
-use league::circular;
 use league_json::read_league;
 use moves::Move;
 use std::alloc::Global;
+use std::process::Abort;
 use std::test::Fail;
 
 /// Two games in a row at home, or away, are too many. The first rule is soft, and the third is kept.
@@ -54,12 +54,25 @@ const FOUND: Text<'_> = Excerpt(
     "round 6: 1-3 4-2\nleast hard 16: runs 4, repeats 4, halves 4, rule 2 BR2 3, rule 4 SE1 1\nbest none\n",
 );
 
+const WITHOUT_HISTORY: Text<'_> = Excerpt(
+    "league 4 teams 6 rounds\nteam 1 AHAAHH A\n",
+    &["team 3 HAHHAA C\n"],
+    "round 6: 1-3 4-2\nleast hard 16: runs 4, repeats 4, halves 4, rule 2 BR2 3, rule 4 SE1 1\nbest none\n",
+);
+
 /// Without the four repeats.
 const FOUND_IF_FREE: Text<'_> = Excerpt(
     "history 1\nrounds 1 5\nend\nleague 4 teams 6 rounds\n",
     &["team 1 AHAAHH A\n", "team 3 HAHHAA C\n"],
     "round 6: 1-3 4-2\nleast hard 12: runs 4, halves 4, rule 2 BR2 3, rule 4 SE1 1\nbest none\n",
 );
+
+/// Leagues, whether the history is wanted, and what an improvement ends with.
+const ENDS: [(&str, bool, Text<'_>); 3] = [
+    (STRICT, true, FOUND),
+    (STRICT, false, WITHOUT_HISTORY),
+    (FREE, true, FOUND_IF_FREE),
+];
 
 fn strict_board(alloc: Global, league: &str) -> Result<Board, Fail> {
     let league = read_league(alloc, league.as_bytes())?;
@@ -69,31 +82,26 @@ fn strict_board(alloc: Global, league: &str) -> Result<Board, Fail> {
     Ok(board)
 }
 
-#[test]
-fn parts_that_are_broken_are_told_with_their_numbers(rt: HostRuntime) -> Result<(), Fail> {
-    for (league, found) in [(STRICT, FOUND), (FREE, FOUND_IF_FREE)] {
-        let board = strict_board(rt.alloc(), league)?;
-        let mut buffer = [0; 1000];
-        let mut sink = MemorySink::new(&mut buffer);
-        let mut out = BufferedSink::new(&mut sink);
-        write_improved(&mut out, &board)?;
-        out.flush()?;
-        check_same(&rt, &found.is_told(sink.held()), &true);
-    }
+fn check_improved(
+    rt: &impl Abort,
+    board: &Board,
+    history: bool,
+    wanted: Text<'_>,
+) -> Result<(), Fail> {
+    let mut buffer = [0; 1000];
+    let mut sink = MemorySink::new(&mut buffer);
+    let mut out = BufferedSink::new(&mut sink);
+    write_improved(&mut out, board, history)?;
+    out.flush()?;
+    check_holds(rt, &history, wanted.is_told(sink.held()));
     Ok(())
 }
 
 #[test]
-fn nothing_more_is_told_of_a_feasible_schedule(rt: HostRuntime) -> Result<(), Fail> {
-    let board = Board::new(rt.alloc(), circular(rt.alloc(), 4)?, 0)?;
-    let (mut first, mut second) = ([0; 1000], [0; 1000]);
-    let (mut found, mut improved) = (MemorySink::new(&mut first), MemorySink::new(&mut second));
-    let mut out = BufferedSink::new(&mut found);
-    write_found(&mut out, &board)?;
-    out.flush()?;
-    let mut out = BufferedSink::new(&mut improved);
-    write_improved(&mut out, &board)?;
-    out.flush()?;
-    check_same(&rt, &improved.held(), &found.held());
+fn parts_that_are_broken_are_told_with_their_numbers(rt: HostRuntime) -> Result<(), Fail> {
+    for (league, history, found) in ENDS {
+        let board = strict_board(rt.alloc(), league)?;
+        check_improved(&rt, &board, history, found)?;
+    }
     Ok(())
 }

@@ -8,6 +8,7 @@ use fixture_board::{Ask, Board, Change};
 use league::circular;
 use moves::Move;
 use std::alloc::Global;
+use std::process::Abort;
 use std::test::Fail;
 
 /// Four teams in a circle. The schedule that they are given is the one that they begin at by themselves.
@@ -29,9 +30,7 @@ const FOUND: Text<'_> = Excerpt(
     "round 6: 1-3 4-2\nmoved 2\nbest 26 at 1\n",
 );
 
-#[test]
-fn moved_games_are_those_of_the_best_schedule(rt: HostRuntime) -> Result<(), Fail> {
-    let mut board = given_board(rt.alloc())?;
+fn check_found(rt: &impl Abort, board: &mut Board) -> Result<(), Fail> {
     for mv in MOVES {
         let ask = Ask::of(Change::Shift(mv), board.version(), u64::MAX);
         board.answer(0, ask);
@@ -39,8 +38,14 @@ fn moved_games_are_those_of_the_best_schedule(rt: HostRuntime) -> Result<(), Fai
     let mut buffer = [0; 1000];
     let mut sink = MemorySink::new(&mut buffer);
     let mut out = BufferedSink::new(&mut sink);
-    write_found(&mut out, &board)?;
+    write_found(&mut out, board)?;
     out.flush()?;
-    check_same(&rt, &FOUND.is_told(sink.held()), &true);
+    check_same(rt, &FOUND.is_told(sink.held()), &true);
     Ok(())
+}
+
+#[test]
+fn moved_games_are_those_of_the_best_schedule(rt: HostRuntime) -> Result<(), Fail> {
+    let mut board = given_board(rt.alloc())?;
+    check_found(&rt, &mut board)
 }

@@ -7,50 +7,54 @@ use crate::tests::samples::COST;
 use crate::tests::told::Text;
 use crate::tests::told::Text::{Excerpt, Whole};
 use byte_streams::MemorySink;
-use commands::Format;
-use league::League;
-use league_json::read_league;
-use report_page::{prepare, write_prepared};
-use schedule_texts::judge;
+use commands::{Beginning, Format, report_on};
+use league::SlotSet;
 use std::alloc::Global;
 use std::process::Abort;
 use std::test::Fail;
 
 /// A league in parts, the text of the schedule at which it begins, if it was given, and the price of a moved game.
-type Beginning<'a> = (&'a [&'a str], Option<&'a str>, u32);
+type Begun<'a> = (&'a [&'a str], Option<&'a str>, u32);
 
 /// The report of a schedule for a league in a format.
-type Case<'a> = (Beginning<'a>, Format, &'a str, Text<'a>);
+type Case<'a> = (Begun<'a>, Format, &'a str, Text<'a>);
 
-/// The league that begins there.
-fn beginning(alloc: Global, (parts, start, near): Beginning<'_>) -> Result<League, Fail> {
-    let text = parts.concat(alloc)?;
-    let mut league = read_league(alloc, text.as_bytes())?;
-    if let Some(start) = start {
-        let judged = judge(alloc, &league, start.as_bytes())?;
-        match judged.into_schedule() {
-            Some(start) if start.teams() == league.teams() => league.begin_at(start),
-            _ => return Err("no schedule of the league's teams".into()),
-        }
-    }
-    league.set_near(near.min(1_000_000));
-    Ok(league)
-}
-
-fn report_of(alloc: Global, league: &League, format: Format, sheet: &str) -> Result<Vec<u8>, Fail> {
-    let judged = judge(alloc, league, sheet.as_bytes())?;
-    let prepared = prepare(alloc, format, league, &judged, Vec::new(alloc))?;
+/// The report of the schedule for the league that begins there.
+fn report_of(
+    alloc: Global,
+    league: &[u8],
+    (start, near): (Option<&str>, u32),
+    format: Format,
+    sheet: &str,
+) -> Result<Vec<u8>, Fail> {
+    let from = match start {
+        Some(start) => Some(start.as_bytes()),
+        None => None,
+    };
+    let beginning = Beginning {
+        from,
+        rounds: SlotSet::empty(),
+        games: &[],
+        near: near.min(1_000_000),
+    };
     let mut buffer = vec![in alloc; 0; 20_000]?;
     let mut sink = MemorySink::new(&mut buffer);
-    write_prepared(league, sheet.as_bytes(), &judged, &prepared, &mut sink)?;
+    report_on(
+        alloc,
+        league,
+        Some(sheet.as_bytes()),
+        Some(&beginning),
+        &mut sink,
+        format,
+    )?;
     Ok(Vec::from_slice(alloc, sink.held())?)
 }
 
 fn check_case(rt: &impl Abort, alloc: Global, case: &Case<'_>) -> Result<(), Fail> {
-    let (beginning_words, format, sheet, text) = *case;
-    let league = beginning(alloc, beginning_words)?;
-    let report = report_of(alloc, &league, format, sheet)?;
-    let about = (beginning_words, format, str::from_utf8(&report));
+    let ((league, start, near), format, sheet, text) = *case;
+    let league = league.concat(alloc)?;
+    let report = report_of(alloc, league.as_bytes(), (start, near), format, sheet)?;
+    let about = (start, near, format, str::from_utf8(&report));
     check_same_of(rt, &about, &text.is_told(&report), &true);
     Ok(())
 }

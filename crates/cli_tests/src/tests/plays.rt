@@ -119,7 +119,7 @@ const TOLD_OF_HOSTILE: Text<'_> = Excerpt(
 #[test]
 fn hostile_lines_are_told_and_change_nothing(rt: HostRuntime) -> Result<(), Fail> {
     let parts = [CIRCLE.as_bytes(), SCRIPT.as_bytes(), HOSTILE];
-    let told = tell(&rt, rt.alloc(), PLAY_OF_1024, &parts.concat(rt.alloc())?)?;
+    let told = tell(rt.alloc(), PLAY_OF_1024, &parts.concat(rt.alloc())?)?;
     check_same(&rt, &TOLD_OF_HOSTILE.is_told(&told.text), &true);
     Ok(())
 }

@@ -2,9 +2,10 @@
 
 use crate::tests::checks::{check_holds, check_same, check_same_of};
 use crate::tests::circle::CIRCLE;
-use crate::tests::told::{Command, tell};
-use byte_streams::{MemorySink, MemorySource, RehearsedSink, Sink, Step};
-use commands::{ProgramFault, ProgressLine, RunContext, SearchPlan, find_from};
+use crate::tests::searches::{found, found_by};
+use crate::tests::told::Told;
+use byte_streams::{MemorySink, RehearsedSink, Sink, Step};
+use commands::{Extent, ProgressLine, RunContext, SearchPlan};
 use draws::{Gate, Progress};
 use fixture_board::{Reply, Why};
 use std::alloc::{AllocError, Global};
@@ -241,6 +242,71 @@ fn line_is_written_when_it_is_due_and_taken_away(rt: HostRuntime) {
     }
 }
 
+/// Runs with one line: how many steps they have in all, how many are told in each run, how many then in one that doesn't end, and what the
+/// terminal holds then.
+type Runs<'a> = (u64, &'a [u64], u64, &'a str);
+
+/// A millisecond passes at each telling.
+const RUNS: [Runs<'_>; 2] = [
+    // after a quarter of a second the first run shows the line, and its end shows it again and takes it away. The first telling of the second
+    // run writes it at once, and its end shows all steps
+    (
+        280,
+        &[250, 30],
+        0,
+        "\r\x1b[K\x1b[?7l89 % steps 250 of 280 best 30 left 0:00:00\x1b[?7h\
+            \r\x1b[K\x1b[?7l89 % steps 250 of 280 best 30 left 0:00:00\x1b[?7h\r\x1b[K\
+            \r\x1b[K\x1b[?7l89 % steps 251 of 280 best 30 left 0:00:00\x1b[?7h\
+            \r\x1b[K\x1b[?7l100 % steps 280 of 280 best 30 left 0:00:00\x1b[?7h\r\x1b[K",
+    ),
+    // a worker that goes on while a text is written shows no line before a quarter of a second has passed
+    (
+        800,
+        &[250],
+        250,
+        "\r\x1b[K\x1b[?7l31 % steps 250 of 800 best 30 left 0:00:00\x1b[?7h\
+            \r\x1b[K\x1b[?7l31 % steps 250 of 800 best 30 left 0:00:00\x1b[?7h\r\x1b[K\
+            \r\x1b[K\x1b[?7l62 % steps 500 of 800 best 30 left 0:00:00\x1b[?7h",
+    ),
+];
+
+/// A worker tells so often after a step.
+fn tell_steps<C: Clock, W: Sink>(rt: &impl Wait, line: &ProgressLine<'_, C, W>, tellings: u64) {
+    let progress = Progress {
+        steps: 1,
+        least: Some(30),
+    };
+    for _telling in 0..tellings {
+        line.reported(rt, 0, progress);
+    }
+}
+
+fn run_each<C: Clock, W: Sink>(rt: &impl Wait, line: &ProgressLine<'_, C, W>, runs: &[u64]) {
+    for tellings in runs {
+        line.begun(rt, 0);
+        tell_steps(rt, line, *tellings);
+        line.ended(rt);
+    }
+}
+
+fn check_runs<R: Wait + Abort>(rt: &R, (steps, runs, rest, shown): Runs<'_>) {
+    let mut buffer = [0; 1000];
+    let mut terminal = MemorySink::new(&mut buffer);
+    let clock = Ticks::new(Some(1));
+    let line = ProgressLine::over(&clock, &mut terminal, Extent::Steps(steps));
+    run_each(rt, &line, runs);
+    tell_steps(rt, &line, rest);
+    drop(line);
+    check_same(rt, &terminal.held(), &shown.as_bytes());
+}
+
+#[test]
+fn line_comes_again_in_the_next_run(rt: HostRuntime) {
+    for runs in RUNS {
+        check_runs(&rt, runs);
+    }
+}
+
 const PLAN_OF_ONE: SearchPlan = SearchPlan {
     workers: 1,
     seed: 1,
@@ -250,30 +316,16 @@ const PLAN_OF_ONE: SearchPlan = SearchPlan {
 
 const ROOM: u32 = 100_000;
 
-/// The text of a search by one worker that shows on the terminal how far it is. Each step takes a second.
+/// The answer and the text of a search by one worker that shows on the terminal how far it is. Each step takes a second.
 fn searched<T: Threads + Wait + Sync, W: Sink + Send + Drop>(
     rt: &T,
     alloc: Global,
     terminal: W,
     input: &str,
-) -> Result<Vec<u8>, ProgramFault> {
-    let mut memory = vec![in alloc; 0; 100_000]?;
-    let mut sink = MemorySink::new(&mut memory);
-    let mut source = MemorySource::new(input.as_bytes());
+) -> Result<Told, AllocError> {
     let clock = Ticks::new(Some(1000));
     let gate = &ProgressLine::new(&clock, terminal, PLAN_OF_ONE);
-    let run_context = RunContext { rt, alloc, gate };
-    find_from(run_context, &mut source, &mut sink, ROOM, PLAN_OF_ONE)?;
-    Ok(Vec::from_slice(alloc, sink.held())?)
-}
-
-/// The text of that search without a terminal.
-fn found<T: Threads + Wait + Sync>(rt: &T, alloc: Global) -> Result<Vec<u8>, AllocError> {
-    let command = Command::Find {
-        room: ROOM,
-        plan: PLAN_OF_ONE,
-    };
-    Ok(tell(rt, alloc, command, CIRCLE.as_bytes())?.text)
+    found_by(RunContext { rt, alloc, gate }, input, ROOM, PLAN_OF_ONE)
 }
 
 /// The totals are those of `PAUSE=1 scripts/oracle worker-steps asks 1 0 4 4 4 100000`.
@@ -288,18 +340,21 @@ const SHOWN: &[u8] = b"\r\x1b[K\x1b[?7l25 % steps 1 of 4 best 30 left 0:00:03\x1
 fn search_shows_its_line_and_takes_it_away(rt: HostRuntime) -> Result<(), Fail> {
     let mut buffer = [0; 1000];
     let mut terminal = MemorySink::new(&mut buffer);
-    let text = searched(&rt, rt.alloc(), &mut terminal, CIRCLE)?;
-    check_same(&rt, &text, &found(&rt, rt.alloc())?);
+    let shown = searched(&rt, rt.alloc(), &mut terminal, CIRCLE)?;
+    let quiet = found(&rt, rt.alloc(), CIRCLE, ROOM, PLAN_OF_ONE)?;
+    check_same(&rt, &shown.text, &quiet.text);
     check_same(&rt, &terminal.held(), &SHOWN);
     Ok(())
 }
 
 #[test]
-fn refused_search_shows_no_line(rt: HostRuntime) {
+fn refused_search_shows_no_line(rt: HostRuntime) -> Result<(), Fail> {
     let mut buffer = [0; 1000];
     let mut terminal = MemorySink::new(&mut buffer);
-    let is_refused = searched(&rt, rt.alloc(), &mut terminal, "").is_err();
-    check_same(&rt, &(is_refused, terminal.tally().calls), &(true, 0));
+    let answer = searched(&rt, rt.alloc(), &mut terminal, "")?.answer;
+    let calls = terminal.tally().calls;
+    check_same(&rt, &(answer.is_err(), calls), &(true, 0));
+    Ok(())
 }
 
 /// A line that is told by a hundred steps, whatever they take.
@@ -355,15 +410,12 @@ fn search_by_hundreds<T: Threads + Wait + Sync, W: Sink + Send + Drop>(
     alloc: Global,
     terminal: W,
     plan: SearchPlan,
-) -> Result<(), ProgramFault> {
-    let mut memory = vec![in alloc; 0; 100_000]?;
-    let mut sink = MemorySink::new(&mut memory);
-    let mut source = MemorySource::new(CIRCLE.as_bytes());
+) -> Result<(), AllocError> {
     let clock = Ticks::new(Some(250));
     let line = ProgressLine::new(&clock, terminal, plan);
     let gate = &ByHundreds { line };
-    let run_context = RunContext { rt, alloc, gate };
-    find_from(run_context, &mut source, &mut sink, ROOM, plan)
+    found_by(RunContext { rt, alloc, gate }, CIRCLE, ROOM, plan)?;
+    Ok(())
 }
 
 fn check_last_line<T: Threads + Wait + Sync + Abort>(

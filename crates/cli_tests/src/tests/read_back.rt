@@ -12,9 +12,7 @@ use serde_json::Value;
 use std::alloc::Global;
 use std::process::Abort;
 use std::str;
-use std::sync::Wait;
 use std::test::Fail;
-use std::thread::Threads;
 
 /// The parts of an input, and where the report on it has which value.
 type Case<'a> = (&'a [&'a str], &'a [(&'a str, &'a str)]);
@@ -122,32 +120,48 @@ const READ_BACK: &[Case<'_>] = &[
     ),
 ];
 
-/// The report is a line of JSON with these values.
-fn check_values<T: Threads + Wait + Sync + Abort>(
-    rt: &T,
+/// At the path stands this value.
+fn check_value(
+    rt: &impl Abort,
     alloc: Global,
-    case: Case<'_>,
+    report: &Value,
+    (path, value): (&str, &str),
 ) -> Result<(), Fail> {
-    let (parts, values) = case;
-    let input = parts.concat(alloc)?;
-    let told = tell(rt, alloc, Command::Report(Format::Json), input.as_bytes())?;
-    check_holds(rt, &"a line end", told.text.ends_with(b"}\n"));
-    let report = Value::from_str(alloc, str::from_utf8(&told.text)?)?;
-    for (path, value) in values {
-        let wanted = Value::from_str(alloc, *value)?;
-        let is_there = match report.pointer(*path) {
-            Some(found) => *found == wanted,
-            None => false,
-        };
-        check_holds(rt, path, is_there);
+    let wanted = Value::from_str(alloc, value)?;
+    let is_there = match report.pointer(path) {
+        Some(found) => *found == wanted,
+        None => false,
+    };
+    check_holds(rt, &path, is_there);
+    Ok(())
+}
+
+/// The report has these values.
+fn check_values(
+    rt: &impl Abort,
+    alloc: Global,
+    report: &Value,
+    values: &[(&str, &str)],
+) -> Result<(), Fail> {
+    for value in values {
+        check_value(rt, alloc, report, *value)?;
     }
     Ok(())
 }
 
+/// The report is a line of JSON.
+fn report_on(rt: &impl Abort, alloc: Global, parts: &[&str]) -> Result<Value, Fail> {
+    let input = parts.concat(alloc)?;
+    let told = tell(alloc, Command::Report(Format::Json), input.as_bytes())?;
+    check_holds(rt, &"a line end", told.text.ends_with(b"}\n"));
+    Ok(Value::from_str(alloc, str::from_utf8(&told.text)?)?)
+}
+
 #[test]
 fn json_is_read_back(rt: HostRuntime) -> Result<(), Fail> {
-    for case in READ_BACK {
-        check_values(&rt, rt.alloc(), *case)?;
+    for (parts, values) in READ_BACK {
+        let report = report_on(&rt, rt.alloc(), parts)?;
+        check_values(&rt, rt.alloc(), &report, values)?;
     }
     Ok(())
 }

@@ -38,24 +38,16 @@ pub(crate) const NO_STEPS: SearchPlan = SearchPlan {
     slack: 0,
 };
 
-/// A search without a step.
-pub(crate) const FIND: Case<'_> = (
-    Command::Find {
-        room: 8,
-        plan: NO_STEPS,
-    },
-    &[CIRCLE],
-    WRITTEN,
-    Whole(&[
-        "workers 2 steps 0 seed 7\n\
-        worker 1 made 0 accepted 0 refused 0\n\
-        worker 2 made 0 accepted 0 refused 0\n\
-        history 0\n\
-        end\n",
-        SHEET,
-        "best 30 at 0\n",
-    ]),
-);
+/// The text of a search without a step.
+pub(crate) const NO_STEPS_MADE: Text<'_> = Whole(&[
+    "workers 2 steps 0 seed 7\n\
+    worker 1 made 0 accepted 0 refused 0\n\
+    worker 2 made 0 accepted 0 refused 0\n\
+    history 0\n\
+    end\n",
+    SHEET,
+    "best 30 at 0\n",
+]);
 
 /// The start's cost. The figures are those of scripts/parts/model.py, which shares no code with the crates.
 pub(crate) const COST: &str = "travel 30 hard 0 soft 0\n\

@@ -1,12 +1,12 @@
 //! Searches: the known text of one without a step, what is answered first, and histories that `play` leads back to.
 
-use crate::tests::checks::{check_holds, check_same, check_same_of};
+use crate::tests::checks::{check_holds, check_same};
 use crate::tests::circle::CIRCLE;
 use crate::tests::closings::{closing, script};
-use crate::tests::samples::{FIND, NO_STEPS, SCRIPT};
-use crate::tests::told::{Command, NOTHING, check_case, tell};
-use byte_streams::{MemorySink, MemorySource};
-use commands::{NoGate, ProgramFault, RunContext, SearchPlan, find};
+use crate::tests::samples::{NO_STEPS, NO_STEPS_MADE, SCRIPT};
+use crate::tests::told::{Answer, Command, Told, tell};
+use byte_streams::{MemorySink, MemorySource, Sink};
+use commands::{Gate, NoGate, ProgramFault, RunContext, SearchPlan, find, find_from};
 use league::LeagueFault;
 use std::alloc::{AllocError, Global};
 use std::process::Abort;
@@ -25,9 +25,48 @@ fn search_without_steps_writes_the_start(rt: HostRuntime) -> Result<(), Fail> {
         gate: &NoGate,
     };
     find(run_context, source, &mut sink, 1024, NO_STEPS)?;
-    let (_, _, _, text) = FIND;
-    check_same(&rt, &text.is_told(sink.held()), &true);
+    check_same(&rt, &NO_STEPS_MADE.is_told(sink.held()), &true);
     Ok(())
+}
+
+/// The answer of a search whose workers pass the gate, the text that it wrote, of at most 200,000 bytes, and in how many calls.
+pub(crate) fn found_by<T: Threads + Wait + Sync, G: Gate + Sync>(
+    run_context: RunContext<'_, T, G>,
+    input: &str,
+    room: u32,
+    plan: SearchPlan,
+) -> Result<Told, AllocError> {
+    let alloc = run_context.alloc;
+    let mut buffer = vec![in alloc; 0; 200_000]?;
+    let mut sink = MemorySink::new(&mut buffer);
+    let mut source = MemorySource::new(input.as_bytes());
+    let outcome = find_from(run_context, &mut source, &mut sink, room, plan);
+    let calls = sink.tally().calls;
+    let text = Vec::from_slice(alloc, sink.held())?;
+    Ok(Told {
+        answer: without_verdict(outcome),
+        text,
+        calls,
+    })
+}
+
+/// As [`found_by`], without a gate.
+pub(crate) fn found<T: Threads + Wait + Sync>(
+    rt: &T,
+    alloc: Global,
+    input: &str,
+    room: u32,
+    plan: SearchPlan,
+) -> Result<Told, AllocError> {
+    let gate = &NoGate;
+    found_by(RunContext { rt, alloc, gate }, input, room, plan)
+}
+
+fn without_verdict(outcome: Result<(), ProgramFault>) -> Answer {
+    match outcome {
+        Ok(()) => Ok(None),
+        Err(fault) => Err(fault),
+    }
 }
 
 /// The room and the workers that a search without a step is asked for, its input, and the first fault, which is answered.
@@ -45,8 +84,8 @@ fn search_names_the_first_fault(rt: HostRuntime) -> Result<(), Fail> {
             workers,
             ..NO_STEPS
         };
-        let command = Command::Find { room, plan };
-        check_case(&rt, rt.alloc(), &(command, &[input], Err(fault), NOTHING))?;
+        let told = found(&rt, rt.alloc(), input, room, plan)?;
+        check_same(&rt, &(told.answer, told.calls), &(Err(fault), 0));
     }
     Ok(())
 }
@@ -63,8 +102,7 @@ fn searched<T: Threads + Wait + Sync>(
         steps: 100,
         slack: 30,
     };
-    let command = Command::Find { room: 2048, plan };
-    Ok(tell(rt, alloc, command, CIRCLE.as_bytes())?.text)
+    Ok(found(rt, alloc, CIRCLE, 2048, plan)?.text)
 }
 
 /// The history of a text and its last line, which is the best version.
@@ -75,43 +113,30 @@ fn history_and_best(text: &[u8]) -> Option<(&str, &str)> {
 }
 
 /// The play text of a history on the circle.
-fn played<T: Threads + Wait + Sync>(
-    rt: &T,
-    alloc: Global,
-    history: &str,
-) -> Result<Vec<u8>, AllocError> {
+pub(crate) fn played(alloc: Global, history: &str) -> Result<Vec<u8>, AllocError> {
     let input = [CIRCLE, SCRIPT, script(history)].concat(alloc)?;
     let command = Command::Play { room: 2048 };
-    Ok(tell(rt, alloc, command, input.as_bytes())?.text)
+    Ok(tell(alloc, command, input.as_bytes())?.text)
 }
 
 /// The search's history isn't empty, and leads to the same history and best when it is played as a script. The best costs
 /// less than the start's 30.
-fn check_played_again<T: Threads + Wait + Sync + Abort>(
-    rt: &T,
-    alloc: Global,
-    workers: u32,
-) -> Result<(), Fail> {
-    let text = searched(rt, alloc, workers)?;
-    let Some((history, best)) = history_and_best(&text) else {
+fn check_played_again(rt: &impl Abort, alloc: Global, text: &[u8]) -> Result<(), Fail> {
+    let Some((history, best)) = history_and_best(text) else {
         return Err(Fail::new("no history"));
     };
     check_holds(rt, &history, history != "0");
     check_holds(rt, &best, best.starts_with("2"));
-    let again = played(rt, alloc, history)?;
-    check_same_of(
-        rt,
-        &workers,
-        &history_and_best(&again),
-        &Some((history, best)),
-    );
+    let again = played(alloc, history)?;
+    check_same(rt, &history_and_best(&again), &Some((history, best)));
     Ok(())
 }
 
 #[test]
 fn histories_of_searches_played_lead_to_the_same_best(rt: HostRuntime) -> Result<(), Fail> {
     for workers in [1, 2, 4, 16] {
-        check_played_again(&rt, rt.alloc(), workers)?;
+        let text = searched(&rt, rt.alloc(), workers)?;
+        check_played_again(&rt, rt.alloc(), &text)?;
     }
     Ok(())
 }

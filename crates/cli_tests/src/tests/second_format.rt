@@ -9,9 +9,7 @@ use league::Field;
 use league::LeagueFault::{RuleClass, WrongKind};
 use std::alloc::Global;
 use std::process::Abort;
-use std::sync::Wait;
 use std::test::Fail;
-use std::thread::Threads;
 
 /// The beginning of a league in a format that there isn't.
 const FOURTH: &str = r#"{"format":4,"#;
@@ -184,11 +182,7 @@ const PLAYS: &[Play<'_>] = &[
     ),
 ];
 
-fn check_play<T: Threads + Wait + Sync + Abort>(
-    rt: &T,
-    alloc: Global,
-    (input, first, last): Play<'_>,
-) -> Result<(), Fail> {
+fn check_play(rt: &impl Abort, alloc: Global, (input, first, last): Play<'_>) -> Result<(), Fail> {
     let text = Excerpt(first, &[], last);
     check_case(rt, alloc, &(PLAY_OF_1024, input, WRITTEN, text))
 }

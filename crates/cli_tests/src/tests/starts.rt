@@ -95,7 +95,7 @@ fn start_writes_a_sheet_or_names_the_first_fault(rt: HostRuntime) -> Result<(), 
 #[test]
 fn start_reads_a_text_up_to_the_limit(rt: HostRuntime) -> Result<(), Fail> {
     let blanks = vec![in rt.alloc(); b' '; 4_194_304]?;
-    let told = tell(&rt, rt.alloc(), Command::Start, &blanks)?;
+    let told = tell(rt.alloc(), Command::Start, &blanks)?;
     check_same(&rt, &(told.answer, told.calls), &(Err(League(NotJson)), 0));
     Ok(())
 }

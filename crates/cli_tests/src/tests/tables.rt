@@ -1,6 +1,6 @@
 //! Schedules as tables: heads, separators, quotation marks and names, rows that give no game, and hostile texts.
 
-use crate::tests::checks::{check_holds, check_same, check_same_of};
+use crate::tests::checks::{check_holds, check_same_of};
 use crate::tests::circle::{CIRCLE, SHEET};
 use crate::tests::formatted_reports::{MARKED, marked};
 use crate::tests::samples::{COMMAS, COST, JUDGED};
@@ -9,10 +9,13 @@ use crate::tests::told::{Answer, Case, NOTHING, TEXT_REPORT, Text, check_case, c
 use byte_streams::MemorySink;
 use commands::{Format, ProgramFault, Verdict};
 use given_start::write_start_faults;
+use league::League;
 use league_json::read_league;
 use schedule_csv::CellFault::{Absent, NoNumber, NoTeam, TwoTeams};
 use schedule_csv::Column::{Away, Home, Round};
 use schedule_csv::{CellFault, Column, RowFault, TableFault, schedule_text};
+use std::alloc::Global;
+use std::process::Abort;
 use std::test::Fail;
 
 const FEASIBLE: Answer = Ok(Some(Verdict::Feasible));
@@ -72,7 +75,7 @@ fn any_names_are_read_again(rt: HostRuntime) -> Result<(), Fail> {
     let games = text.strip_prefix("round,home,home name,away,away name\n");
     for head in ["round,home,x,away,y\n", "round,x,home,y,away\n"] {
         let input = [MARKED, JUDGED, head, games.unwrap_or("")].concat(rt.alloc())?;
-        let found = tell(&rt, rt.alloc(), TEXT_REPORT, input.as_bytes())?;
+        let found = tell(rt.alloc(), TEXT_REPORT, input.as_bytes())?;
         check_same_of(&rt, &head, &found.answer, &FEASIBLE);
         check_holds(&rt, &head, STARTED.is_told(&found.text));
     }
@@ -160,17 +163,35 @@ fn games_of_a_table_are_judged(rt: HostRuntime) -> Result<(), Fail> {
     check_cases(&rt, rt.alloc(), FAULTY)
 }
 
+/// Starts that have the game of teams 1 and 4 in the first round alone.
+const STARTS_OF_ONE_GAME: [&[u8]; 2] = [b"away,home\nT4,T1\n", b"round 1: 1-4\n"];
+
+/// What is wrong with them.
+const FAULTS_OF_ONE_GAME: Text<'_> = Excerpt(
+    "team 1 has no game in round 2\n",
+    &["game 1-2 is missing\n", "game 4-1 is missing\n"],
+    "no double round robin\n",
+);
+
+fn check_start_faults(
+    rt: &impl Abort,
+    alloc: Global,
+    league: &League,
+    text: &[u8],
+) -> Result<(), Fail> {
+    let mut buffer = [0; 2000];
+    let mut sink = MemorySink::new(&mut buffer);
+    write_start_faults(alloc, league, text, &mut sink)?;
+    check_holds(rt, &text, FAULTS_OF_ONE_GAME.is_told(sink.held()));
+    Ok(())
+}
+
 #[test]
 fn a_start_from_a_table_is_told_as_from_a_text(rt: HostRuntime) -> Result<(), Fail> {
     let league = read_league(rt.alloc(), CIRCLE.as_bytes())?;
-    let mut buffer = [0; 2000];
-    let mut sink = MemorySink::new(&mut buffer);
-    write_start_faults(rt.alloc(), &league, b"away,home\nT4,T1\n", &mut sink)?;
-    let mut text_room = [0; 2000];
-    let mut text_sink = MemorySink::new(&mut text_room);
-    write_start_faults(rt.alloc(), &league, b"round 1: 1-4\n", &mut text_sink)?;
-    check_same(&rt, &sink.held(), &text_sink.held());
-    check_holds(&rt, &sink.held().len(), !sink.held().is_empty());
+    for text in STARTS_OF_ONE_GAME {
+        check_start_faults(&rt, rt.alloc(), &league, text)?;
+    }
     Ok(())
 }
 
@@ -194,17 +215,25 @@ const NO_HOME: TableFault = TableFault::Row(RowFault {
     why: NoTeam,
 });
 
+fn length_of(alloc: Global, league: &League, table: &[u8]) -> Result<usize, TableFault> {
+    match schedule_text(alloc, league, table) {
+        Ok(text) => Ok(text.as_bytes().len()),
+        Err(fault) => Err(fault),
+    }
+}
+
+fn check_hostile(rt: &impl Abort, alloc: Global, league: &League) -> Result<(), Fail> {
+    for &(piece, times, wanted) in HOSTILE {
+        let rows = piece.repeat(alloc, times)?;
+        let table = ["home,away\n", rows.as_str()].concat(alloc)?;
+        let found = length_of(alloc, league, table.as_bytes());
+        check_same_of(rt, &piece, &found, &wanted);
+    }
+    Ok(())
+}
+
 #[test]
 fn hostile_tables_give_a_text_or_a_fault(rt: HostRuntime) -> Result<(), Fail> {
     let league = read_league(rt.alloc(), CIRCLE.as_bytes())?;
-    for &(piece, times, wanted) in HOSTILE {
-        let rows = piece.repeat(rt.alloc(), times)?;
-        let table = ["home,away\n", rows.as_str()].concat(rt.alloc())?;
-        let found = match schedule_text(rt.alloc(), &league, table.as_bytes()) {
-            Ok(text) => Ok(text.as_bytes().len()),
-            Err(fault) => Err(fault),
-        };
-        check_same_of(&rt, &piece, &found, &wanted);
-    }
-    Ok(())
+    check_hostile(&rt, rt.alloc(), &league)
 }

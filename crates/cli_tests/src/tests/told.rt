@@ -3,22 +3,16 @@
 use crate::tests::checks::check_same_of;
 use crate::tests::samples::NAMED;
 use byte_streams::{MemorySink, MemorySource, Sink};
-use commands::{
-    Format, NoGate, ProgramFault, RunContext, SearchPlan, Verdict, find, league, play, report,
-    start,
-};
+use commands::{Format, ProgramFault, Verdict, league, play, report, start};
 use std::alloc::{AllocError, Global};
 use std::process::Abort;
-use std::sync::Wait;
 use std::test::Fail;
-use std::thread::Threads;
 
-/// A command, and what it is asked for.
+/// A command that starts no thread, and what it is asked for.
 #[derive(Clone, Copy, Debug)]
 pub(crate) enum Command {
     Start,
     Play { room: u32 },
-    Find { room: u32, plan: SearchPlan },
     Report(Format),
     League,
 }
@@ -36,21 +30,11 @@ pub(crate) type Answer = Result<Option<Verdict>, ProgramFault>;
 pub(crate) const WRITTEN: Answer = Ok(None);
 
 impl Command {
-    fn run<T: Threads + Wait + Sync, W: Sink>(
-        self,
-        rt: &T,
-        alloc: Global,
-        input: &[u8],
-        sink: &mut W,
-    ) -> Answer {
+    fn run<W: Sink>(self, alloc: Global, input: &[u8], sink: &mut W) -> Answer {
         let source = MemorySource::new(input);
         match self {
             Command::Start => start(alloc, source, sink)?,
             Command::Play { room } => play(alloc, source, sink, room)?,
-            Command::Find { room, plan } => {
-                let gate = &NoGate;
-                find(RunContext { rt, alloc, gate }, source, sink, room, plan)?;
-            }
             Command::Report(format) => return Ok(Some(report(alloc, source, sink, format)?)),
             Command::League => {
                 league(alloc, source, sink, None, NAMED)?;
@@ -69,15 +53,10 @@ pub(crate) struct Told {
 }
 
 /// The answer of the command to an input of at most 200,000 bytes of text.
-pub(crate) fn tell<T: Threads + Wait + Sync>(
-    rt: &T,
-    alloc: Global,
-    command: Command,
-    input: &[u8],
-) -> Result<Told, AllocError> {
+pub(crate) fn tell(alloc: Global, command: Command, input: &[u8]) -> Result<Told, AllocError> {
     let mut buffer = vec![in alloc; 0; 200_000]?;
     let mut sink = MemorySink::new(&mut buffer);
-    let answer = command.run(rt, alloc, input, &mut sink);
+    let answer = command.run(alloc, input, &mut sink);
     let calls = sink.tally().calls;
     let text = Vec::from_slice(alloc, sink.held())?;
     Ok(Told {
@@ -146,14 +125,10 @@ pub(crate) fn missing<'a>(text: &str, parts: &[&'a str]) -> Option<&'a str> {
 /// A command, its input in parts, what it answers, and what it writes.
 pub(crate) type Case<'a> = (Command, &'a [&'a str], Answer, Text<'a>);
 
-pub(crate) fn check_case<T: Threads + Wait + Sync + Abort>(
-    rt: &T,
-    alloc: Global,
-    case: &Case<'_>,
-) -> Result<(), Fail> {
+pub(crate) fn check_case(rt: &impl Abort, alloc: Global, case: &Case<'_>) -> Result<(), Fail> {
     let (command, input, answer, text) = *case;
     let bytes = input.concat(alloc)?;
-    let told = tell(rt, alloc, command, bytes.as_bytes())?;
+    let told = tell(alloc, command, bytes.as_bytes())?;
     let is_told = text.is_told(&told.text);
     // a sink that took nothing was never called
     let is_quiet = told.text.is_empty();
@@ -163,11 +138,7 @@ pub(crate) fn check_case<T: Threads + Wait + Sync + Abort>(
     Ok(())
 }
 
-pub(crate) fn check_cases<T: Threads + Wait + Sync + Abort>(
-    rt: &T,
-    alloc: Global,
-    cases: &[Case<'_>],
-) -> Result<(), Fail> {
+pub(crate) fn check_cases(rt: &impl Abort, alloc: Global, cases: &[Case<'_>]) -> Result<(), Fail> {
     for case in cases {
         check_case(rt, alloc, case)?;
     }

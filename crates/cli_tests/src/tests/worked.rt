@@ -9,9 +9,7 @@ use crate::tests::told::Text::Excerpt;
 use crate::tests::told::{Case, Command, PLAY_OF_1024, Told, WRITTEN, check_cases, tell};
 use std::alloc::{AllocError, Global};
 use std::process::Abort;
-use std::sync::Wait;
 use std::test::Fail;
-use std::thread::Threads;
 
 /// The ends of leagues with four teams.
 const AT_MOST_TWO: &str = r#","at_most":2}"#;
@@ -291,22 +289,13 @@ const BOARDS: &[Case<'_>] = &[
 ];
 
 #[test]
-fn moves_have_known_answers(rt: HostRuntime) -> Result<(), Fail> {
-    check_cases(&rt, rt.alloc(), MOVES)
-}
-
-#[test]
-fn boards_have_known_answers(rt: HostRuntime) -> Result<(), Fail> {
+fn scripts_have_known_answers(rt: HostRuntime) -> Result<(), Fail> {
+    check_cases(&rt, rt.alloc(), MOVES)?;
     check_cases(&rt, rt.alloc(), BOARDS)
 }
 
 /// The text of the case's command for its league and a script.
-fn replayed<T: Threads + Wait + Sync>(
-    rt: &T,
-    alloc: Global,
-    case: &Case<'_>,
-    script: &str,
-) -> Result<Told, AllocError> {
+fn replayed(alloc: Global, case: &Case<'_>, script: &str) -> Result<Told, AllocError> {
     let (command, parts, _, _) = *case;
     let mut input = String::new(alloc);
     // the league stands before the script
@@ -317,43 +306,28 @@ fn replayed<T: Threads + Wait + Sync>(
         }
     }
     input.push_str(script)?;
-    tell(rt, alloc, command, input.as_bytes())
+    tell(alloc, command, input.as_bytes())
 }
 
 /// The script's history, played as a script, leads to the same end of the text.
-fn check_played_again<T: Threads + Wait + Sync + Abort>(
-    rt: &T,
-    alloc: Global,
-    case: &Case<'_>,
-) -> Result<(), Fail> {
+fn check_played_again(rt: &impl Abort, alloc: Global, case: &Case<'_>) -> Result<(), Fail> {
     let (command, parts, _, _) = *case;
     let input = parts.concat(alloc)?;
-    let first = tell(rt, alloc, command, input.as_bytes())?;
+    let first = tell(alloc, command, input.as_bytes())?;
     let Some((history, board)) = closing(&first.text) else {
         return Err(Fail::new("no history"));
     };
-    let again = replayed(rt, alloc, case, script(history))?;
+    let again = replayed(alloc, case, script(history))?;
     check_same_of(rt, &parts, &closing(&again.text), &Some((history, board)));
     Ok(())
 }
 
-fn check_all_played_again<T: Threads + Wait + Sync + Abort>(
-    rt: &T,
-    alloc: Global,
-    cases: &[Case<'_>],
-) -> Result<(), Fail> {
-    for case in cases {
-        check_played_again(rt, alloc, case)?;
+#[test]
+fn histories_played_again_lead_to_the_same_board(rt: HostRuntime) -> Result<(), Fail> {
+    for cases in [MOVES, BOARDS] {
+        for case in cases {
+            check_played_again(&rt, rt.alloc(), case)?;
+        }
     }
     Ok(())
-}
-
-#[test]
-fn histories_of_moves_played_again_lead_to_the_same_board(rt: HostRuntime) -> Result<(), Fail> {
-    check_all_played_again(&rt, rt.alloc(), MOVES)
-}
-
-#[test]
-fn histories_of_boards_played_again_lead_to_the_same_board(rt: HostRuntime) -> Result<(), Fail> {
-    check_all_played_again(&rt, rt.alloc(), BOARDS)
 }

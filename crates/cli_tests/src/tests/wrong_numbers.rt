@@ -7,31 +7,102 @@ use std::alloc::Global;
 use std::process::Abort;
 use std::test::Fail;
 
-/// A command, its option, how help calls the option's number, and the range of it.
+/// A command, its option, how help calls the option's number, and what is wanted.
 type Numbered<'a> = (&'a str, &'a str, &'a str, &'a str);
+
+const ROOM: Numbered<'_> = ("play", "--room", "<N>", "a whole number from 0 to 1048576");
+
+const WORKERS: Numbered<'_> = ("improve", "--workers", "<W>", "a whole number from 1 to 16");
+
+const EFFORT: Numbered<'_> = (
+    "improve",
+    "--effort",
+    "<E>",
+    "a number from 0.001 to 1000000 with at most three decimals",
+);
+
+const SECONDS: Numbered<'_> = (
+    "improve",
+    "--seconds",
+    "<S>",
+    "a whole number from 1 to 1000000",
+);
+
+const STEPS: Numbered<'_> = (
+    "search",
+    "--steps",
+    "<T>",
+    "a whole number from 0 to 1000000",
+);
+
+const NEAR: Numbered<'_> = (
+    "search",
+    "--near",
+    "<W>",
+    "a whole number from 0 to 1000000",
+);
+
+const AT_MOST: Numbered<'_> = ("league", "--at-most", "<N>", "a whole number from 1 to 78");
+
+const HARD_WEIGHT: Numbered<'_> = (
+    "league",
+    "--hard-weight",
+    "<N>",
+    "a whole number from 1 to 1000000",
+);
 
 /// Each option that wants a number.
 const NUMBERED: &[Numbered<'_>] = &[
-    ("play", "--room", "<N>", "0 to 1048576"),
-    ("play", "--near", "<W>", "0 to 1000000"),
-    ("improve", "--workers", "<W>", "1 to 16"),
-    ("improve", "--seed", "<S>", "0 to 18446744073709551615"),
-    ("improve", "--effort", "<E>", "1 to 1000000"),
-    ("improve", "--seconds", "<S>", "1 to 1000000"),
-    ("improve", "--near", "<W>", "0 to 1000000"),
-    ("search", "--room", "<N>", "0 to 1048576"),
-    ("search", "--workers", "<W>", "1 to 16"),
-    ("search", "--seed", "<S>", "0 to 18446744073709551615"),
-    ("search", "--steps", "<T>", "0 to 1000000"),
-    ("search", "--slack", "<X>", "0 to 18446744073709551615"),
-    ("search", "--near", "<W>", "0 to 1000000"),
-    ("report", "--near", "<W>", "0 to 1000000"),
-    ("league", "--at-most", "<N>", "1 to 78"),
-    ("league", "--hard-weight", "<N>", "1 to 1000000"),
+    ROOM,
+    ("play", "--near", "<W>", "a whole number from 0 to 1000000"),
+    WORKERS,
+    (
+        "improve",
+        "--seed",
+        "<S>",
+        "a whole number from 0 to 18446744073709551615",
+    ),
+    EFFORT,
+    SECONDS,
+    (
+        "improve",
+        "--near",
+        "<W>",
+        "a whole number from 0 to 1000000",
+    ),
+    (
+        "search",
+        "--room",
+        "<N>",
+        "a whole number from 0 to 1048576",
+    ),
+    ("search", "--workers", "<W>", "a whole number from 1 to 16"),
+    (
+        "search",
+        "--seed",
+        "<S>",
+        "a whole number from 0 to 18446744073709551615",
+    ),
+    STEPS,
+    (
+        "search",
+        "--slack",
+        "<X>",
+        "a whole number from 0 to 18446744073709551615",
+    ),
+    NEAR,
+    (
+        "report",
+        "--near",
+        "<W>",
+        "a whole number from 0 to 1000000",
+    ),
+    AT_MOST,
+    HARD_WEIGHT,
 ];
 
 /// Words that no option takes for a number.
-const NO_NUMBERS: &[&str] = &["many", "-1", "-0", "1.5", "1e3", "99999999999999999999"];
+const NO_NUMBERS: &[&str] = &["many", "-1", "-0", "1.5.5", "1e3", "99999999999999999999"];
 
 /// The words that stand behind a command in its usage.
 fn places(command: &str) -> &'static str {
@@ -43,24 +114,32 @@ fn places(command: &str) -> &'static str {
     }
 }
 
-fn check_wanted<'a>(
+fn check_told(rt: &impl Abort, alloc: Global, given: &[&str], wanted: &str) -> Result<(), Fail> {
+    let text = told(alloc, given)?;
+    check_same_of(rt, &given, &text.as_str(), &wanted);
+    Ok(())
+}
+
+fn check_wanted(
     rt: &impl Abort,
     alloc: Global,
-    numbered: &Numbered<'a>,
-    word: &'a str,
+    numbered: &Numbered<'_>,
+    word: &str,
 ) -> Result<(), Fail> {
-    let (command, option, value_name, range) = *numbered;
+    let (command, option, value_name, wants) = *numbered;
     let places = places(command);
     let wanted = format!(in alloc;
-        "error: invalid value '{word}' for '{option} {value_name}': a whole number from {range} is wanted\n\n\
+        "error: invalid value '{word}' for '{option} {value_name}': {wants} is wanted\n\n\
         Usage: ttp {command} [OPTIONS] {places}\n\nFor more information, try '--help'.\n"
     )?;
     let attached = format!(in alloc; "{option}={word}")?;
-    let apart = told(alloc, &["ttp", command, option, word])?;
-    check_same_of(rt, numbered, &apart, &wanted);
-    let together = told(alloc, &["ttp", command, attached.as_str()])?;
-    check_same_of(rt, numbered, &together, &wanted);
-    Ok(())
+    check_told(rt, alloc, &["ttp", command, option, word], wanted.as_str())?;
+    check_told(
+        rt,
+        alloc,
+        &["ttp", command, attached.as_str()],
+        wanted.as_str(),
+    )
 }
 
 #[test]
@@ -73,19 +152,30 @@ fn what_is_wanted_is_said_of_each_option(rt: HostRuntime) -> Result<(), Fail> {
     Ok(())
 }
 
-/// An option of each range, and numbers right below and above it.
+/// An option of each range, and numbers right below and above it, or between two that it takes.
 const BEYOND: &[(Numbered<'_>, &str)] = &[
-    (("play", "--room", "<N>", "0 to 1048576"), "1048577"),
-    (("improve", "--workers", "<W>", "1 to 16"), "0"),
-    (("improve", "--workers", "<W>", "1 to 16"), "17"),
-    (("improve", "--effort", "<E>", "1 to 1000000"), "0"),
-    (("improve", "--seconds", "<S>", "1 to 1000000"), "0"),
-    (("improve", "--seconds", "<S>", "1 to 1000000"), "1000001"),
-    (("search", "--steps", "<T>", "0 to 1000000"), "1000001"),
-    (("search", "--near", "<W>", "0 to 1000000"), "1000001"),
-    (("league", "--at-most", "<N>", "1 to 78"), "0"),
-    (("league", "--at-most", "<N>", "1 to 78"), "79"),
-    (("league", "--hard-weight", "<N>", "1 to 1000000"), "0"),
+    (ROOM, "1048577"),
+    (ROOM, "1.5"),
+    (WORKERS, "0"),
+    (WORKERS, "17"),
+    (WORKERS, "1.0"),
+    (EFFORT, "0"),
+    (EFFORT, "0.000"),
+    (EFFORT, "0.0010"),
+    (EFFORT, "0.0005"),
+    (EFFORT, "1.2345"),
+    (EFFORT, "1000000.001"),
+    (EFFORT, "1000001"),
+    (SECONDS, "0"),
+    (SECONDS, "1000001"),
+    (SECONDS, "0.5"),
+    (STEPS, "1000001"),
+    (NEAR, "1000001"),
+    (NEAR, "1.5"),
+    (AT_MOST, "0"),
+    (AT_MOST, "79"),
+    (HARD_WEIGHT, "0"),
+    (HARD_WEIGHT, "1.5"),
 ];
 
 #[test]
