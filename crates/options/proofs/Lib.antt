@@ -5,3 +5,5 @@ pub mod NamedCommand
 pub mod WordsFault
 pub mod WrongNumbers
 pub mod Keeping
+pub mod Decimals
+pub mod CommandParts

@@ -1,5 +1,5 @@
 -- Where the words are no fault, they name a command, and each of its options has a value.
-use Rattle.std.proofs.Common.{◌≡◌, ◌∙◌, ap, ◌&&◌, ◌||◌, cond, ℕ, Bool, true, false, List, [], ◌∷◌, Option, Some, None}
+use Rattle.std.proofs.Common.{◌≡◌, ◌∙◌, ◌⊎◌, ap, ◌&&◌, ◌||◌, cond, ℕ, Bool, true, false, List, [], ◌∷◌, Option, Some, None}
 use Rattle.std.proofs.Common.{is_some, refl, sym, subst, codes, inl, inr, option_map, true≢false, map, ◌++◌}
 use Rattle.std.specs.Prelude.{Box, find, fold}
 use Rattle.std.specs.Box.{box_value}
@@ -226,7 +226,7 @@ commands_are_read = (
     (
       record {
         named = refl;
-        has = has_values improve_command.options first_word (with_help improve_command.free) improve_sound (all_sound improve_command.options first_word improve_command.free improve_sound (record { other = refl; adds = inl refl }, tt) (record { other = refl; adds = inl refl }, (record { other = refl; adds = inl refl }, (record { other = refl; adds = inl refl }, (record { other = refl; adds = inl refl }, (record { other = refl; adds = inr (inl refl) }, (record { other = refl; adds = inl refl }, tt))))))) (built_command improve_command);
+        has = has_values improve_command.options first_word (with_help improve_command.free) improve_sound (all_sound improve_command.options first_word improve_command.free improve_sound (record { other = refl; adds = inl refl }, tt) (record { other = refl; adds = inr (inr refl) }, (record { other = refl; adds = inl refl }, (record { other = refl; adds = inl refl }, (record { other = refl; adds = inl refl }, (record { other = refl; adds = inl refl }, (record { other = refl; adds = inr (inl refl) }, (record { other = refl; adds = inl refl }, tt)))))))) (built_command improve_command);
       },
       (
         record {
@@ -312,51 +312,45 @@ names_a_command words e =
     entered_is end.stopped (finished top.rules end.held)
     (walk_on (walk_from nothing_held) (argument_words program words) met.0 tt) below.0 last.1
 
--- a command that is named and has this name has the values of its options
-pub improve_values : (found : Text × List Row) → NamesOneOf commands found → found.0 ≡ codes "improve" →
-    HasValues found.1 improve_command.options
-improve_values found (inl of_start) is = absurd (true≢false (ap (λ t. bytes_eq t (codes "start")) (sym of_start.0 ∙ is)))
-improve_values found (inr (inl of_play)) is = absurd (true≢false (ap (λ t. bytes_eq t (codes "play")) (sym of_play.0 ∙ is)))
-improve_values found (inr (inr (inl of_improve))) is = of_improve.1
-improve_values found (inr (inr (inr (inl of_search)))) is = absurd (true≢false (ap (λ t. bytes_eq t (codes "search")) (sym of_search.0 ∙ is)))
-improve_values found (inr (inr (inr (inr (inl of_report))))) is =
-    absurd (true≢false (ap (λ t. bytes_eq t (codes "report")) (sym of_report.0 ∙ is)))
-improve_values found (inr (inr (inr (inr (inr (inl of_league)))))) is =
-    absurd (true≢false (ap (λ t. bytes_eq t (codes "league")) (sym of_league.0 ∙ is)))
-improve_values found (inr (inr (inr (inr (inr (inr none)))))) is = absurd none
+-- each command has another name, or has these options
+abbrev AreOptionsOf : Text → List OptionForm → List CommandForm → Type 0
+AreOptionsOf word options [] = Unit {0}
+AreOptionsOf word options (c ∷ cs) = ((bytes_eq c.name word ≡ false) ⊎ (c.options ≡ options)) × AreOptionsOf word options cs
 
-pub search_values : (found : Text × List Row) → NamesOneOf commands found → found.0 ≡ codes "search" →
-    HasValues found.1 search_command.options
-search_values found (inl of_start) is = absurd (true≢false (ap (λ t. bytes_eq t (codes "start")) (sym of_start.0 ∙ is)))
-search_values found (inr (inl of_play)) is = absurd (true≢false (ap (λ t. bytes_eq t (codes "play")) (sym of_play.0 ∙ is)))
-search_values found (inr (inr (inl of_improve))) is = absurd (true≢false (ap (λ t. bytes_eq t (codes "improve")) (sym of_improve.0 ∙ is)))
-search_values found (inr (inr (inr (inl of_search)))) is = of_search.1
-search_values found (inr (inr (inr (inr (inl of_report))))) is =
-    absurd (true≢false (ap (λ t. bytes_eq t (codes "report")) (sym of_report.0 ∙ is)))
-search_values found (inr (inr (inr (inr (inr (inl of_league)))))) is =
-    absurd (true≢false (ap (λ t. bytes_eq t (codes "league")) (sym of_league.0 ∙ is)))
-search_values found (inr (inr (inr (inr (inr (inr none)))))) is = absurd none
+-- so what names a command by this name has values of these options
+values_of : (word : Text) (options : List OptionForm) (cs : List CommandForm) → AreOptionsOf word options cs → (found : Text × List Row)
+    → NamesOneOf cs found → found.0 ≡ word → HasValues found.1 options
+values_of word options [] are found named is = absurd named
+values_of word options (c ∷ cs) are found (inr later) is = values_of word options cs are.1 found later is
+values_of word options (c ∷ cs) are found (inl here) is = go are.0
+  where
+    go : (bytes_eq c.name word ≡ false) ⊎ (c.options ≡ options) → HasValues found.1 options
+    go (inr same) = subst (HasValues found.1) same here.1
+    go (inl other) = absurd (true≢false (sym ((bytes_eq-Decides c.name word).1 (sym here.0 ∙ is)) ∙ other))
 
-pub league_values : (found : Text × List Row) → NamesOneOf commands found → found.0 ≡ codes "league" →
-    HasValues found.1 league_command.options
-league_values found (inl of_start) is = absurd (true≢false (ap (λ t. bytes_eq t (codes "start")) (sym of_start.0 ∙ is)))
-league_values found (inr (inl of_play)) is = absurd (true≢false (ap (λ t. bytes_eq t (codes "play")) (sym of_play.0 ∙ is)))
-league_values found (inr (inr (inl of_improve))) is = absurd (true≢false (ap (λ t. bytes_eq t (codes "improve")) (sym of_improve.0 ∙ is)))
-league_values found (inr (inr (inr (inl of_search)))) is = absurd (true≢false (ap (λ t. bytes_eq t (codes "search")) (sym of_search.0 ∙ is)))
-league_values found (inr (inr (inr (inr (inl of_report))))) is =
-    absurd (true≢false (ap (λ t. bytes_eq t (codes "report")) (sym of_report.0 ∙ is)))
-league_values found (inr (inr (inr (inr (inr (inl of_league)))))) is = of_league.1
-league_values found (inr (inr (inr (inr (inr (inr none)))))) is = absurd none
+module _ (found : Text × List Row) (named : NamesOneOf commands found) where
+  pub play_values : found.0 ≡ codes "play" → HasValues found.1 play_command.options
+  play_values = values_of (codes "play") play_command.options commands
+      (inl refl, (inr refl, (inl refl, (inl refl, (inl refl, (inl refl, tt)))))) found named
 
--- so the rows of the subcommand that a parse met, where it has this name, have the values of its options
-pub values_of_met : {Z : Type 0} (word : Text) (options : List OptionForm) →
-    ((found : Text × List Row) → NamesOneOf commands found → found.0 ≡ word → HasValues found.1 options)
-    → (met : Option (Box SubCommand Z)) (name : Text) (rows : List Row) → NamesACommand (subcommand_rows met)
-    → Some name ≡ option_map (λ b. (out-SubCommand (box_value b)).name.now) met →
-    Some rows ≡ option_map (λ found. found.1) (subcommand_rows met)
-    → name ≡ word → HasValues rows options
-values_of_met word options values None name rows named is_name are_rows is = absurd named
-values_of_met word options values (Some b) name rows named is_name are_rows is =
+  pub improve_values : found.0 ≡ codes "improve" → HasValues found.1 improve_command.options
+  improve_values = values_of (codes "improve") improve_command.options commands
+      (inl refl, (inl refl, (inr refl, (inl refl, (inl refl, (inl refl, tt)))))) found named
+
+  pub search_values : found.0 ≡ codes "search" → HasValues found.1 search_command.options
+  search_values = values_of (codes "search") search_command.options commands
+      (inl refl, (inl refl, (inl refl, (inr refl, (inl refl, (inl refl, tt)))))) found named
+
+  pub league_values : found.0 ≡ codes "league" → HasValues found.1 league_command.options
+  league_values = values_of (codes "league") league_command.options commands
+      (inl refl, (inl refl, (inl refl, (inl refl, (inl refl, (inr refl, tt)))))) found named
+
+-- the subcommand that a parse met is its name and its rows
+pub met_is : {Z : Type 0} (met : Option (Box SubCommand Z)) (name : Text) (rows : List Row) →
+    Some name ≡ option_map (λ b. (out-SubCommand (box_value b)).name.now) met →
+    Some rows ≡ option_map (λ found. found.1) (subcommand_rows met) → subcommand_rows met ≡ Some (name, rows)
+met_is None name rows is_name are_rows = cc
+met_is (Some b) name rows is_name are_rows =
     let same_name = ap (λ o. option_map_or (λ x. x) o name) is_name in
     let same_rows = ap (λ o. option_map_or (λ x. x) o rows) are_rows in
-    subst (λ rs. HasValues rs options) (sym same_rows) (values _ named (sym same_name ∙ is))
+    rw (same_name, same_rows) refl

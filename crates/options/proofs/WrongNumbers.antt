@@ -7,8 +7,7 @@ use Rattle.clap.specs.ValueTests.{accepts}
 use Rattle.clap.specs.Words.{IsUnsignedIn, Text}
 use Rattle.clap.specs.declared.builder.value_parser.ValueParser.TheVariants.{Unsigned}
 use Rattle.clap.proofs.ValueTestLemmas.{Accepts-accepts, accepts-Accepts}
-use Rattle.options.specs.CommandLine.{OptionForm}
-use Rattle.options.specs.within.WrongNumbers.{Wrong, option_at, value_at, waits, wrong_from, wrong_if_any}
+use Rattle.options.specs.within.WrongNumbers.{Wanting, Wrong, option_at, value_at, waits, wrong_from, wrong_if_any}
 
 pub by_test : (b : Bool) (least most : ℕ) (text : Text) → IsTrue b ↔ IsUnsignedIn least most text → b ≡ accepts false (Unsigned least most) text
 by_test true least most text same = sym (Accepts-accepts false (Unsigned least most) text (same.0 refl))
@@ -25,7 +24,7 @@ next_at f xs i x d within is =
     drop-map f i xs ∙ ap (map f) (drop_more xs i d within ∙ ap (λ y. y ∷ drop (i + 1) xs) (sym is))
     ∙ ap (λ ys. f x ∷ ys) (sym (drop-map f (i + 1) xs))
 
-module _ (command : Text) (waiting : Option OptionForm) (word : Text) (rest : List Text) where
+module _ (command : Text) (waiting : Option Wanting) (word : Text) (rest : List Text) where
   pub stops : bytes_eq word (codes "--") ≡ true → wrong_from command waiting (word ∷ rest) ≡ None
   stops dashes = rw dashes refl
 

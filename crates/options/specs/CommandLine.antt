@@ -14,6 +14,7 @@ use Rattle.clap.specs.declared.builder.value_parser.ValueParser.TheVariants as p
 use Rattle.clap.specs.declared.error.kind.ErrorKind.TheVariants.{InvalidValue}
 use Rattle.clap.specs.declared.builder.action.ArgAction.TheVariants.{Append, SetTrue}
 use Rattle.options.specs.Beginnings.{Beginning, beginning_in}
+use Rattle.options.specs.Effort.{thousandths_in}
 use Rattle.options.specs.Files.{Files, files_of_command}
 use Rattle.options.specs.declared.job.Job.{Job}
 use Rattle.options.specs.declared.job.Job.TheVariants.{Start, Play, Improve, Find, Report, League}
@@ -57,9 +58,9 @@ workers_option = number_option (codes "workers") 1 16 (Some (codes "2"))
 abbrev pub seed_option : OptionForm
 seed_option = number_option (codes "seed") 0 (2 ^ 64 - 1) (Some (codes "1"))
 
--- how many million moves the workers draw together
+-- how many million moves the workers draw together; a text that has no such number is refused apart
 abbrev pub effort_option : OptionForm
-effort_option = number_option (codes "effort") 1 1000000 (Some (codes "10"))
+effort_option = record { name = codes "effort"; parser = parsers.String; default = Some (codes "10") }
 
 -- for how many seconds improvements follow each other; without it there is one alone
 abbrev pub seconds_option : OptionForm
@@ -131,6 +132,10 @@ output_option = lettered 111 (text_option (codes "output"))
 abbrev pub log_option : Rule
 log_option = text_option (codes "log")
 
+-- the history that leads to the best schedule is written too
+abbrev pub history_option : Rule
+history_option = flag (codes "history")
+
 -- the options of files that are written
 abbrev pub file_rules : List Rule
 file_rules = output_option ∷ log_option ∷ []
@@ -158,7 +163,7 @@ play_command = record {
   free = start_rules;
 }
 
--- the numbers of an improvement
+-- the options of an improvement that have a number
 abbrev pub improve_options : List OptionForm
 improve_options = workers_option ∷ seed_option ∷ effort_option ∷ seconds_option ∷ []
 
@@ -167,7 +172,7 @@ improve_command = record {
   name = codes "improve";
   words = league_word ∷ [];
   options = improve_options;
-  free = file_rules ++ start_rules;
+  free = history_option ∷ file_rules ++ start_rules;
 }
 
 -- the numbers of a search beside its room
@@ -231,16 +236,21 @@ program = program_of commands
 abbrev pub number_in : Text → List Row → Option ℕ
 number_in name rows = option_map (λ text. digits_value 10 (without_leading_plus text)) (one_of name rows)
 
--- the improvement by these workers, with this seed, so many million steps and, if they are given, so many seconds
-abbrev pub improve_from : Option ℕ → Option ℕ → Option ℕ → Option ℕ → Option Job
-improve_from (Some workers) (Some seed) (Some millions) seconds = Some (Improve workers seed (millions * 1000000) seconds)
-improve_from _ _ _ _ = None
+-- whether the option without a value is there
+abbrev pub is_flagged : Text → List Row → Bool
+is_flagged name rows = option_map_or (λ text. bytes_eq text (codes "true")) (first_of name rows) false
+
+-- the improvement with so many thousandths of a million steps, by these workers, with this seed, for so many seconds if they are given,
+-- and with the history or without it
+abbrev pub improve_from : Option ℕ → Option ℕ → Option ℕ → Option ℕ → Bool → Option Job
+improve_from (Some thousandths) (Some workers) (Some seed) seconds history = Some (Improve workers seed (thousandths * 1000) seconds history)
+improve_from _ _ _ _ _ = None
 
 -- the improvement that stands after the options
 abbrev pub improve_in : List Row → Option Job
 improve_in rows =
-    improve_from (number_in (codes "workers") rows) (number_in (codes "seed") rows) (number_in (codes "effort") rows)
-    (number_in (codes "seconds") rows)
+    improve_from (thousandths_in rows) (number_in (codes "workers") rows) (number_in (codes "seed") rows) (number_in (codes "seconds") rows)
+    (is_flagged (codes "history") rows)
 
 -- the plan of these workers, seed, steps and slack
 abbrev pub plan_from : Option ℕ → Option ℕ → Option ℕ → Option ℕ → Option SearchPlan
@@ -281,10 +291,6 @@ format_named name separator has_mark =
     else (if bytes_eq name (codes "html") then Some formats.Html
     else (if bytes_eq name (codes "names") then Some formats.Names
     else (if bytes_eq name (codes "json") then Some formats.Json else None)))))
-
--- whether the option without a value is there
-abbrev pub is_flagged : Text → List Row → Bool
-is_flagged name rows = option_map_or (λ text. bytes_eq text (codes "true")) (first_of name rows) false
 
 -- the format whose name stands after its option, or its default, with what is asked for CSV
 abbrev pub format_in : List Row → Option Format
@@ -356,11 +362,11 @@ pub record IsPlanInRange (plan : SearchPlan) : Type 0 where
   pub few : plan.workers ≤ 16
   pub steps : plan.steps ≤ 1000000
 
--- 1 to 16 workers, a million steps to a million million and, if they are given, 1 to a million seconds
+-- 1 to 16 workers, a thousand steps to a million million and, if they are given, 1 to a million seconds
 pub record IsImproveInRange (workers effort : ℕ) (seconds : Option ℕ) : Type 0 where
   pub some : 1 ≤ workers
   pub few : workers ≤ 16
-  pub least : 1000000 ≤ effort
+  pub least : 1000 ≤ effort
   pub most : effort ≤ 1000000000000
   pub time : IfSome seconds (λ s. (1 ≤ s) × (s ≤ 1000000))
 
@@ -373,7 +379,7 @@ pub record IsLeagueInRange (at_most hard_weight : Option ℕ) : Type 0 where
 abbrev pub IsInRange : Job → Type 0
 IsInRange Start = Unit {0}
 IsInRange (Play room) = room ≤ max_room
-IsInRange (Improve workers seed effort seconds) = IsImproveInRange workers effort seconds
+IsInRange (Improve workers seed effort seconds history) = IsImproveInRange workers effort seconds
 IsInRange (Find room plan) = (room ≤ max_room) × IsPlanInRange plan
 IsInRange (Report format) = Unit {0}
 IsInRange (League choice at_most hard_weight) = IsLeagueInRange at_most hard_weight

@@ -17,7 +17,7 @@ use text_lines::{byte_index, number, numbers_at_dash, rest_after};
 pub(crate) const MAX_NEAR: u64 = 1_000_000;
 
 /// The rounds and games that are kept of the schedule at which boards begin, and the cost of a moved game.
-#[derive(Debug, Drop)]
+#[derive(Drop)]
 pub struct BeginningWords {
     /// The rounds whose games are kept, from 0.
     pub rounds: SlotSet,

@@ -10,7 +10,7 @@ use std::alloc::{AllocError, Global};
 
 /// The names of files, where `-` is standard input. Without a name for the league it stands on standard input, and what is
 /// read beside it behind it. With one for the league alone, that is read from standard input.
-#[derive(Debug, Drop)]
+#[derive(Drop)]
 pub struct FileWords {
     /// The league's file.
     pub league: Option<String>,

@@ -35,17 +35,22 @@ Example:
   ttp play leagues/circular-4.json changes.txt";
 
 pub(crate) const IMPROVE_ABOUT: &str =
-    "Reads a league from standard input, anneals its schedule, and writes each better one as soon as
-it has it, then the history that leads to the best";
+    "Reads a league from standard input, anneals its schedule, and writes the sheet of each better one
+as soon as it has it, and at the end the last one again with its total";
 
 pub(crate) const IMPROVE_EXAMPLE: &str =
-    "It chooses all numbers by itself, and writes the same whatever the number of workers. It can be
-ended at any time: what is written above a line `----------` is whole, and the last schedule there
-is the best so far. With --output a file has that schedule alone (docs/improve.md). The exit status
-is 3 where it finds none that breaks no hard limit; then the line before the last one has what is
-broken.
+    "It chooses all numbers by itself, and writes the same whatever the number of workers. A line
+`----------` ends each sheet. The program can be ended at any time: what is written above such a
+line is whole, and the last sheet there is the best so far. At the end that sheet and a line
+`best B` stand, and with --history before them the history that leads there. With --output a file
+has the best schedule alone, and with --log a file has a line for each leg (docs/improve.md). The
+exit status is 3 where it finds none that breaks no hard limit; then the line before the last one
+has what is broken.
 
 Example:
+  ttp improve leagues/circular-6.json --effort 0.1
+
+Ten teams, by four workers, with more moves:
   ttp improve --workers 4 --effort 100 < leagues/circular-10.json
 
 A season is mended by what it has: rounds 1 to 8 stay, and each game that moves costs 50:
@@ -113,7 +118,7 @@ pub(crate) const WORKERS_HELP: &str = "How many workers search at once, 1 to 16"
 pub(crate) const SEED_HELP: &str = "What the workers' draws begin with, any number of 64 bits";
 
 pub(crate) const EFFORT_HELP: &str =
-    "How many million moves the workers draw together, 1 to 1000000";
+    "How many million moves the workers draw together, 0.001 to 1000000 with at most three decimals";
 
 pub(crate) const SECONDS_HELP: &str =
     "For how many seconds improvements follow each other, 1 to 1000000, each with twice the effort of the one before and the next seed";
@@ -138,7 +143,10 @@ pub(crate) const FROM_HELP: &str =
     "The file of a schedule at which boards begin, in place of the league's own start";
 
 pub(crate) const OUTPUT_HELP: &str =
-    "The file that has the best schedule so far, whole at any time, behind the history that leads to it";
+    "The file that has the best schedule so far alone, whole at any time";
+
+pub(crate) const HISTORY_HELP: &str =
+    "The history that leads to the best schedule stands before its last sheet, also in the file of --output";
 
 pub(crate) const LOG_HELP: &str = "The file that gets a line of JSON for each leg; it is made anew";
 

@@ -1,33 +1,25 @@
 //! The program's command line.
 
-ghost use Rattle.std.specs.Prelude.{◌≡◌, ◌≤◌, [], ◌∷◌, Some, IfOk, IfSome, IsTrue, fold, map, option_and_then, option_map, string_bytes};
-ghost use Rattle.clap.specs.Words.{app_of, found_of, rows_of, FailsBy, subcommand_rows_of, with_rule};
-ghost use Rattle.options.specs.CommandLine.{app_of_command, improve_command, improve_in, job_of_command, job_of_words, play_command};
-ghost use Rattle.options.specs.Beginnings.{beginning_of};
+ghost use Rattle.std.specs.Prelude.{◌≡◌, Some, IfOk, IfSome, IsTrue, map, option_map, string_bytes};
+ghost use Rattle.clap.specs.Words.{found_of, rows_of, FailsBy};
+ghost use Rattle.options.specs.CommandLine.{IsInRange, IsPlanInRange, commands, find_from, job_of_command, job_of_words, number_in};
+ghost use Rattle.options.specs.CommandLine.{plan_in, play_command, room_option, search_command, words_fault};
 ghost use Rattle.options.specs.CommandLine.{beginning_of_words, files_of_words, title_of_words};
-ghost use Rattle.league.specs.Labels.{is_title};
-ghost use Rattle.options.specs.CommandLine.{improve_options, plan_options, rule_of};
-ghost use Rattle.options.specs.CommandLine.{plan_in, program, program_of, report_command, search_command, start_command, words_fault};
+ghost use Rattle.options.specs.Beginnings.{beginning_of};
 ghost use Rattle.options.specs.Files.{files_of};
-ghost use Rattle.options.specs.CommandLine.{number_in, seconds_option, IsInRange, IsPlanInRange};
-ghost use Rattle.options.specs.within.CommandLine.{HasValue, HasValues, NamesACommand, form_named};
+ghost use Rattle.options.specs.within.CommandLine.{HasValues, NamesOneOf};
+ghost use Rattle.league.specs.Labels.{is_title};
 
-use crate::help::{
-    IMPROVE_ABOUT, IMPROVE_EXAMPLE, PLAY_ABOUT, PLAY_LINES, PROGRAM_ABOUT, PROGRAM_EXAMPLE,
-    SEARCH_ABOUT, SEARCH_EXAMPLE, START_ABOUT, START_EXAMPLE, VERSION,
-};
-use crate::league_args::{league_command, league_of};
-use crate::number_args::{EFFORT, ROOM, SECONDS, SEED, SLACK, STEPS, WORKERS};
+use crate::commands::program;
+use crate::improve_args::improve_of;
+use crate::league_args::league_of;
+use crate::number_args::{ROOM, SEED, SLACK, STEPS, WORKERS};
 use crate::refusals::{refused, with_wanted};
-use crate::report_args::{format_of, report_command};
+use crate::report_args::report_of;
 use crate::request::{Request, request_of};
-use crate::text_args::{FROM, LEAGUE, SCRIPT, with_file_options, with_start_options};
 use choices::{Format, SearchPlan, Symmetry};
-use clap::{ArgMatches, Command, Error};
-use std::alloc::{AllocError, Global};
-
-/// How many steps one unit of `--effort` stands for.
-const STEPS_OF_EFFORT: u64 = 1_000_000;
+use clap::{ArgMatches, Error};
+use std::alloc::Global;
 
 /// The job that the program is asked to do.
 #[derive(Clone, Copy, Debug, PartialEq, Eq)]
@@ -45,6 +37,8 @@ pub enum Job {
         seed: u64,
         effort: u64,
         seconds: Option<u32>,
+        /// Whether the history that leads to the best schedule is written too.
+        history: bool,
     },
     /// Search for a cheaper schedule of the league, on a board with room for so many changes.
     Find {
@@ -74,11 +68,11 @@ pub fn args(alloc: Global, words: &[String]) -> Result<Request, Error>
     ensures in_range { IfOk result (λ request. IsInRange request.job) }
     ensures callable { IfOk result (λ request. IsTrue (is_title (option_map string_bytes request.title))) }
 {
-    let command = match command(alloc) {
-        Ok(command) => command,
+    let program = match program(alloc) {
+        Ok(program) => program,
         Err(error) => return Err(Error::from(error)),
     };
-    match command.try_get_matches_from(words) {
+    match program.try_get_matches_from(words) {
         Ok(matches) => match request_of(alloc, &matches) {
             Ok(request) => Ok(request),
             Err(refusal) => Err(refused(alloc, &matches, refusal)),
@@ -87,54 +81,43 @@ pub fn args(alloc: Global, words: &[String]) -> Result<Request, Error>
     }
 }
 
-/// The job of a command and its values, unless they name a format that there isn't.
-pub(crate) fn job_of(matches: &ArgMatches) -> Option<Job>
-    requires { NamesACommand (subcommand_rows_of matches.now) }
-    ensures job { result ≡ option_and_then job_of_command (subcommand_rows_of matches.now) }
+/// The job of a command and its values, unless one of them names nothing here.
+pub(crate) fn job_of(name: &str, values: &ArgMatches) -> Option<Job>
+    requires { NamesOneOf commands (name.now, rows_of (found_of values.now)) }
+    ensures job { result ≡ job_of_command (name.now, rows_of (found_of values.now)) }
     ensures in_range { IfSome result IsInRange }
 {
-    match matches.subcommand() {
-        Some(("start", _)) => Some(Job::Start),
-        Some(("play", values)) => Some(Job::Play {
-            room: ROOM.number(values) as u32,
-        }),
-        Some(("improve", values)) => Some(improve_of(values)),
-        Some(("search", values)) => Some(Job::Find {
-            room: ROOM.number(values) as u32,
-            plan: plan_of(values),
-        }),
-        Some(("report", values)) => match format_of(values) {
-            Some(format) => Some(Job::Report(format)),
-            None => None,
-        },
-        Some(("league", values)) => league_of(values),
+    match name {
+        "start" => Some(Job::Start),
+        "play" => Some(play_of(values)),
+        "improve" => improve_of(values),
+        "search" => Some(find_of(values)),
+        "report" => report_of(values),
+        "league" => league_of(values),
         // a command is required, and `help` is answered as an error
-        _ => unreachable!(),
+        _ => None,
     }
 }
 
-fn improve_of(values: &ArgMatches) -> Job
-    requires { HasValues (rows_of (found_of values.now)) improve_command.options }
-    ensures job { improve_in (rows_of (found_of values.now)) ≡ Some result }
+fn play_of(values: &ArgMatches) -> Job
+    requires { HasValues (rows_of (found_of values.now)) play_command.options }
+    ensures job { option_map Job.Play (number_in room_option.name (rows_of (found_of values.now))) ≡ Some result }
     ensures in_range { IsInRange result }
 {
-    Job::Improve {
-        workers: WORKERS.number(values) as u32,
-        seed: SEED.number(values),
-        effort: EFFORT.number(values) * STEPS_OF_EFFORT,
-        seconds: seconds_of(values),
+    Job::Play {
+        room: ROOM.number(values) as u32,
     }
 }
 
-/// For how many seconds improvements follow each other, if that is asked for.
-fn seconds_of(values: &ArgMatches) -> Option<u32>
-    requires { HasValue (rows_of (found_of values.now)) seconds_option }
-    ensures number { number_in seconds_option.name (rows_of (found_of values.now)) ≡ result }
-    ensures range { IfSome result (λ seconds. (1 ≤ seconds) × (seconds ≤ 1000000)) }
+fn find_of(values: &ArgMatches) -> Job
+    requires { HasValues (rows_of (found_of values.now)) search_command.options }
+    ensures job { find_from (number_in room_option.name (rows_of (found_of values.now))) (plan_in (rows_of (found_of values.now)))
+        ≡ Some result }
+    ensures in_range { IsInRange result }
 {
-    match SECONDS.number_if_any(values) {
-        Some(seconds) => Some(seconds as u32),
-        None => None,
+    Job::Find {
+        room: ROOM.number(values) as u32,
+        plan: plan_of(values),
     }
 }
 
@@ -149,145 +132,4 @@ fn plan_of(values: &ArgMatches) -> SearchPlan
         steps: STEPS.number(values) as u32,
         slack: SLACK.number(values),
     }
-}
-
-fn command<'a>(alloc: Global) -> Result<Command<'a>, AllocError>
-    ensures { IfOk result (λ c. app_of c ≡ program) }
-{
-    let league = league_command(alloc)?;
-    let with_report = with_report(alloc)?;
-    let program = with_report.subcommand(league)?;
-    program.bin_name("ttp")
-}
-
-/// The program's command line without `league`.
-fn with_report<'a>(alloc: Global) -> Result<Command<'a>, AllocError>
-    ensures { IfOk result (λ c. app_of c
-        ≡ program_of (start_command ∷ play_command ∷ improve_command ∷ search_command ∷ report_command ∷ [])) }
-{
-    let report = report_command(alloc)?;
-    let with_search = with_search(alloc)?;
-    with_search.subcommand(report)
-}
-
-/// The program's command line with `start`, `play`, `improve` and `search`.
-fn with_search<'a>(alloc: Global) -> Result<Command<'a>, AllocError>
-    ensures { IfOk result (λ c. app_of c ≡ program_of (start_command ∷ play_command ∷ improve_command ∷ search_command ∷ [])) }
-{
-    let search = search_command(alloc)?;
-    let with_improve = with_improve(alloc)?;
-    with_improve.subcommand(search)
-}
-
-/// The program's command line with `start`, `play` and `improve`.
-fn with_improve<'a>(alloc: Global) -> Result<Command<'a>, AllocError>
-    ensures { IfOk result (λ c. app_of c ≡ program_of (start_command ∷ play_command ∷ improve_command ∷ [])) }
-{
-    let improve = improve_command(alloc)?;
-    let with_play = with_play(alloc)?;
-    with_play.subcommand(improve)
-}
-
-/// The program's command line with `start` and `play`.
-fn with_play<'a>(alloc: Global) -> Result<Command<'a>, AllocError>
-    ensures { IfOk result (λ c. app_of c ≡ program_of (start_command ∷ play_command ∷ [])) }
-{
-    let play = play_command(alloc)?;
-    let with_start = with_start(alloc)?;
-    with_start.subcommand(play)
-}
-
-/// The program's command line with `start` alone.
-fn with_start<'a>(alloc: Global) -> Result<Command<'a>, AllocError>
-    ensures { IfOk result (λ c. app_of c ≡ program_of (start_command ∷ [])) }
-{
-    let start = start_command(alloc)?;
-    Command::new(alloc, "ttp")
-        .version(VERSION)
-        .about(PROGRAM_ABOUT)
-        .after_help(PROGRAM_EXAMPLE)
-        .subcommand_required(true)
-        .subcommand(start)
-}
-
-/// The command of this name, and `start` for any other.
-pub(crate) fn command_named<'a>(alloc: Global, name: &str) -> Result<Command<'a>, AllocError>
-    ensures { IfOk result (λ c. app_of c ≡ app_of_command (form_named name.now)) }
-{
-    match name {
-        "play" => play_command(alloc),
-        "improve" => improve_command(alloc),
-        "search" => search_command(alloc),
-        "report" => report_command(alloc),
-        "league" => league_command(alloc),
-        _ => start_command(alloc),
-    }
-}
-
-fn start_command<'a>(alloc: Global) -> Result<Command<'a>, AllocError>
-    ensures { IfOk result (λ c. app_of c ≡ app_of_command start_command) }
-{
-    Command::new(alloc, "start")
-        .about(START_ABOUT)
-        .after_help(START_EXAMPLE)
-        .arg(LEAGUE.word(alloc))?
-        .arg(FROM.option(alloc))
-}
-
-fn play_command<'a>(alloc: Global) -> Result<Command<'a>, AllocError>
-    ensures { IfOk result (λ c. app_of c ≡ app_of_command play_command) }
-{
-    let command = Command::new(alloc, "play")
-        .about(PLAY_ABOUT)
-        .after_help(PLAY_LINES)
-        .arg(LEAGUE.word(alloc))?
-        .arg(SCRIPT.word(alloc))?
-        .arg(ROOM.arg(alloc))?;
-    with_start_options(alloc, command)
-}
-
-fn improve_command<'a>(alloc: Global) -> Result<Command<'a>, AllocError>
-    ensures { IfOk result (λ c. app_of c ≡ app_of_command improve_command) }
-{
-    let command = Command::new(alloc, "improve")
-        .about(IMPROVE_ABOUT)
-        .after_help(IMPROVE_EXAMPLE)
-        .arg(LEAGUE.word(alloc))?;
-    let planned = with_improve_options(alloc, command)?;
-    let with_files = with_file_options(alloc, planned)?;
-    with_start_options(alloc, with_files)
-}
-
-/// The command with the numbers of an improvement.
-fn with_improve_options<'a>(alloc: Global, command: Command<'a>) -> Result<Command<'a>, AllocError>
-    ensures { IfOk result (λ c. app_of c ≡ fold with_rule (app_of command.entry) (map rule_of improve_options)) }
-{
-    command
-        .arg(WORKERS.arg(alloc))?
-        .arg(SEED.arg(alloc))?
-        .arg(EFFORT.arg(alloc))?
-        .arg(SECONDS.arg(alloc))
-}
-
-fn search_command<'a>(alloc: Global) -> Result<Command<'a>, AllocError>
-    ensures { IfOk result (λ c. app_of c ≡ app_of_command search_command) }
-{
-    let command = Command::new(alloc, "search")
-        .about(SEARCH_ABOUT)
-        .after_help(SEARCH_EXAMPLE)
-        .arg(LEAGUE.word(alloc))?
-        .arg(ROOM.arg(alloc))?;
-    let planned = with_plan_options(alloc, command)?;
-    with_start_options(alloc, planned)
-}
-
-/// The command with the numbers of a plan.
-fn with_plan_options<'a>(alloc: Global, command: Command<'a>) -> Result<Command<'a>, AllocError>
-    ensures { IfOk result (λ c. app_of c ≡ fold with_rule (app_of command.entry) (map rule_of plan_options)) }
-{
-    command
-        .arg(WORKERS.arg(alloc))?
-        .arg(SEED.arg(alloc))?
-        .arg(STEPS.arg(alloc))?
-        .arg(SLACK.arg(alloc))
 }

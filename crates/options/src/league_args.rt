@@ -1,9 +1,9 @@
-//! The command `league` and its options. clap takes any text for what stands for two distances that differ and for what a league is called,
+//! What is asked for by `league`. clap takes any text for what stands for two distances that differ and for what a league is called,
 //! and a name that none has, or that no league can have, is refused here.
 
 ghost use Rattle.std.specs.Prelude.{◌≡◌, ◌≤◌, IfOk, IfSome, option_map, string_bytes};
-ghost use Rattle.clap.specs.Words.{app_of, found_of, rows_of};
-ghost use Rattle.options.specs.CommandLine.{app_of_command, at_most_option, choice_of, hard_weight_option, league_command, league_in};
+ghost use Rattle.clap.specs.Words.{found_of, rows_of};
+ghost use Rattle.options.specs.CommandLine.{at_most_option, choice_of, hard_weight_option, league_command, league_in};
 ghost use Rattle.options.specs.CommandLine.{number_in, symmetry_named, title_in, IsInRange};
 ghost use Rattle.options.specs.within.CommandLine.{HasValue, HasValues};
 ghost use Rattle.league.specs.Labels.{is_title};
@@ -11,28 +11,14 @@ ghost use Rattle.sets.specs.Limits.{max_rounds};
 ghost use Rattle.options.specs.within.Files.{written};
 
 use crate::files::owned;
-use crate::help::{LEAGUE_ABOUT, LEAGUE_EXAMPLE};
 use crate::job::Job;
+use crate::names::Names;
 use crate::number_args::{AT_MOST, HARD_WEIGHT};
-use crate::text_args::{DISTANCES, NAME, SYMMETRIC};
 use choices::Symmetry;
-use clap::{ArgMatches, Command};
+use clap::ArgMatches;
 use league::is_text_within;
 use league::limits::MAX_TITLE;
 use std::alloc::{AllocError, Global};
-
-pub(crate) fn league_command<'a>(alloc: Global) -> Result<Command<'a>, AllocError>
-    ensures { IfOk result (λ c. app_of c ≡ app_of_command league_command) }
-{
-    Command::new(alloc, "league")
-        .about(LEAGUE_ABOUT)
-        .after_help(LEAGUE_EXAMPLE)
-        .arg(DISTANCES.word(alloc))?
-        .arg(AT_MOST.arg(alloc))?
-        .arg(HARD_WEIGHT.arg(alloc))?
-        .arg(SYMMETRIC.option(alloc))?
-        .arg(NAME.option(alloc))
-}
 
 /// The league of a table with what was asked for it, unless that names what nothing has.
 pub(crate) fn league_of(values: &ArgMatches) -> Option<Job>
@@ -100,12 +86,19 @@ fn choice_of(name: Option<&str>) -> Option<Option<Symmetry>>
     }
 }
 
+const MEAN: &str = "mean";
+
+const MAX: &str = "max";
+
+/// What `--symmetric` takes.
+pub(crate) const SYMMETRIES: Names = Names { all: &[MEAN, MAX] };
+
 fn symmetry_named(name: &str) -> Option<Symmetry>
     ensures { result ≡ symmetry_named name.now }
 {
     match name {
-        "mean" => Some(Symmetry::Mean),
-        "max" => Some(Symmetry::Max),
+        MEAN => Some(Symmetry::Mean),
+        MAX => Some(Symmetry::Max),
         _ => None,
     }
 }

@@ -2,12 +2,20 @@
 #![tactic(auto)]
 
 mod beginning;
+mod command_parts;
+mod commands;
+mod default_args;
+mod effort;
 mod file_clash;
 mod files;
+mod flag_args;
 mod help;
+mod improve_args;
 mod job;
 mod league_args;
+mod names;
 mod number_args;
+mod number_options;
 mod refusals;
 mod report_args;
 mod request;

@@ -1,16 +1,15 @@
-//! The options of the commands: `--name N`. N is a whole number.
+//! The options `--name N` of the commands, where N is a whole number.
 
 ghost use Rattle.std.specs.Prelude.{◌≡◌, ◌≤◌, ◌↔◌, IfSome, IsTrue, Some, false, is_some, option_map, true};
 ghost use Rattle.clap.specs.ValueTests.{accepts};
 ghost use Rattle.clap.specs.Words.{IsUnsignedIn, found_of, rows_of, rule_of as rule_of_arg};
-ghost use Rattle.options.specs.CommandLine.{number_in, rule_of, terms_options};
+ghost use Rattle.options.specs.CommandLine.{number_in, rule_of};
 ghost use Rattle.options.specs.within.CommandLine.{HasValue, form_of};
-ghost use Rattle.options.specs.within.WrongNumbers.{improve_numbers, named, numbers_of, play_numbers, report_numbers, search_numbers};
 
 use crate::beginning::MAX_NEAR;
 use crate::help::{
-    AT_MOST_HELP, EFFORT_HELP, HARD_WEIGHT_HELP, NEAR_HELP, ROOM_HELP, SECONDS_HELP, SEED_HELP,
-    SLACK_HELP, STEPS_HELP, WORKERS_HELP,
+    AT_MOST_HELP, HARD_WEIGHT_HELP, NEAR_HELP, ROOM_HELP, SECONDS_HELP, SEED_HELP, SLACK_HELP,
+    STEPS_HELP, WORKERS_HELP,
 };
 use choices::{MAX_ROOM, MAX_WORKERS};
 use clap::builder::ValueParser;
@@ -19,9 +18,6 @@ use std::alloc::Global;
 
 /// The most steps of each worker.
 const MAX_STEPS: u64 = 1_000_000;
-
-/// The most millions of steps of an improvement.
-const MAX_MILLIONS: u64 = 1_000_000;
 
 /// The most seconds of an improvement: eleven days and a half.
 const MAX_SECONDS: u64 = 1_000_000;
@@ -68,15 +64,6 @@ pub(crate) const SEED: NumberArg = NumberArg {
     most: u64::MAX,
     default: Some("1"),
     help: SEED_HELP,
-};
-
-pub(crate) const EFFORT: NumberArg = NumberArg {
-    name: "effort",
-    value_name: "E",
-    least: 1,
-    most: MAX_MILLIONS,
-    default: Some("10"),
-    help: EFFORT_HELP,
 };
 
 pub(crate) const SECONDS: NumberArg = NumberArg {
@@ -133,76 +120,6 @@ pub(crate) const NEAR_NUMBER: NumberArg = NumberArg {
     default: None,
     help: NEAR_HELP,
 };
-
-/// The option of a command that has the name and wants a number.
-pub(crate) fn number_named(command: &str, name: &str) -> Option<NumberArg>
-    ensures { option_map form_of result ≡ named name.now (numbers_of command.now) }
-{
-    match command {
-        "play" => play_number(name),
-        "improve" => improve_number(name),
-        "search" => search_number(name),
-        "report" => report_number(name),
-        "league" => league_number(name),
-        _ => None,
-    }
-}
-
-fn play_number(name: &str) -> Option<NumberArg>
-    ensures { option_map form_of result ≡ named name.now play_numbers }
-{
-    match name {
-        "room" => Some(ROOM),
-        "near" => Some(NEAR_NUMBER),
-        _ => None,
-    }
-}
-
-fn improve_number(name: &str) -> Option<NumberArg>
-    ensures { option_map form_of result ≡ named name.now improve_numbers }
-{
-    match name {
-        "workers" => Some(WORKERS),
-        "seed" => Some(SEED),
-        "effort" => Some(EFFORT),
-        "seconds" => Some(SECONDS),
-        "near" => Some(NEAR_NUMBER),
-        _ => None,
-    }
-}
-
-fn search_number(name: &str) -> Option<NumberArg>
-    ensures { option_map form_of result ≡ named name.now search_numbers }
-{
-    match name {
-        "room" => Some(ROOM),
-        "workers" => Some(WORKERS),
-        "seed" => Some(SEED),
-        "steps" => Some(STEPS),
-        "slack" => Some(SLACK),
-        "near" => Some(NEAR_NUMBER),
-        _ => None,
-    }
-}
-
-fn report_number(name: &str) -> Option<NumberArg>
-    ensures { option_map form_of result ≡ named name.now report_numbers }
-{
-    match name {
-        "near" => Some(NEAR_NUMBER),
-        _ => None,
-    }
-}
-
-fn league_number(name: &str) -> Option<NumberArg>
-    ensures { option_map form_of result ≡ named name.now terms_options }
-{
-    match name {
-        "at-most" => Some(AT_MOST),
-        "hard-weight" => Some(HARD_WEIGHT),
-        _ => None,
-    }
-}
 
 impl NumberArg {
     /// The option as clap has it.

@@ -6,20 +6,27 @@ ghost use Rattle.clap.specs.Kinds.{HasKind};
 ghost use Rattle.options.specs.within.Refusals.{first_wrong, wrong_game};
 
 use crate::beginning::game_of_text;
+use crate::commands::command_named;
 use crate::file_clash::output_message;
-use crate::job::command_named;
-use crate::report_args::format_named;
+use crate::league_args::SYMMETRIES;
+use crate::number_args::NEAR_NUMBER;
+use crate::number_options::NumberOption;
+use crate::report_args::{FORMATS, SEPARATORS, format_named};
 use crate::wrong_number::{WrongNumber, cause_of};
 use choices::Format;
 use clap::error::ErrorKind;
-use clap::{ArgMatches, Error};
+use clap::{ArgMatches, Command, Error};
+use league::limits::MAX_TITLE;
+use sets::limits::{MAX_ROUNDS, MAX_TEAMS};
 use std::alloc::{AllocError, Global};
 
 /// Why words are refused that clap takes, or that memory ran out.
-#[derive(Clone, Copy, Debug, PartialEq, Eq)]
+#[derive(Clone, Copy)]
 pub(crate) enum Refusal {
     /// No way to make distances symmetric has the name, no format has it, no separator has it, or what is CSV's is asked for another format.
     Format,
+    /// The text of `--effort` is wrong.
+    Effort,
     /// Standard input would be read twice.
     Input,
     /// A file would be written that has to be another one.
@@ -95,42 +102,39 @@ fn error_of(alloc: Global, name: &str, kind: ErrorKind, message: &str) -> Result
     ensures { IfOk result (λ error. kind_of error ≡ kind) }
 {
     let full_name = format!(in alloc; "ttp {name}")?;
-    let mut command = command_named(alloc, name)?.bin_name(full_name.as_str())?;
+    error_as(alloc, name, full_name.as_str(), kind, message)
+}
+
+/// That of a command with its full name.
+fn error_as(
+    alloc: Global,
+    name: &str,
+    full_name: &str,
+    kind: ErrorKind,
+    message: &str,
+) -> Result<Error, AllocError>
+    ensures { IfOk result (λ error. kind_of error ≡ kind) }
+{
+    let mut command = command_called(alloc, name, full_name)?;
     command.error(kind, message)
+}
+
+fn command_called<'a>(
+    alloc: Global,
+    name: &str,
+    full_name: &str,
+) -> Result<Command<'a>, AllocError> {
+    command_named(alloc, name)?.bin_name(full_name)
 }
 
 fn message(alloc: Global, values: &ArgMatches, refusal: Refusal) -> Result<String, AllocError> {
     match refusal {
-        Refusal::Format => match values.get_str("symmetric") {
-            Some(name) => format!(in alloc;
-                "invalid value '{name}' for '--symmetric <BY>'\n  [possible values: mean, max]"
-            ),
-            None => format_message(alloc, values),
-        },
-        Refusal::Name => {
-            let text = values.get_str("name").unwrap_or("");
-            format!(in alloc;
-                "invalid value '{text}' for '--name <TEXT>': 1 to 80 bytes without control bytes are wanted"
-            )
-        }
-        Refusal::Keep => {
-            let text = values.get_str("keep").unwrap_or("");
-            format!(in alloc;
-                "invalid value '{text}' for '--keep <ROUNDS>': rounds from 1 as in 1-8,12 are wanted"
-            )
-        }
-        Refusal::KeepGame => {
-            let text = wrong_game(values);
-            format!(in alloc;
-                "invalid value '{text}' for '--keep-game <GAME>': two teams from 1 as in 7-5 are wanted"
-            )
-        }
-        Refusal::Near => {
-            let text = values.get_str("near").unwrap_or("");
-            format!(in alloc;
-                "invalid value '{text}' for '--near <W>': a whole number from 0 to 1000000 is wanted"
-            )
-        }
+        Refusal::Format => name_message(alloc, values),
+        Refusal::Effort => number_message(alloc, values, NumberOption::Effort),
+        Refusal::Name => title_message(alloc, values),
+        Refusal::Keep => rounds_message(alloc, values),
+        Refusal::KeepGame => game_message(alloc, values),
+        Refusal::Near => number_message(alloc, values, NumberOption::Whole(NEAR_NUMBER)),
         Refusal::Output => output_message(alloc, values),
         _ => String::from_str(
             alloc,
@@ -139,16 +143,57 @@ fn message(alloc: Global, values: &ArgMatches, refusal: Refusal) -> Result<Strin
     }
 }
 
+fn title_message(alloc: Global, values: &ArgMatches) -> Result<String, AllocError> {
+    let text = values.get_str("name").unwrap_or("");
+    format!(in alloc;
+        "invalid value '{text}' for '--name <TEXT>': 1 to {MAX_TITLE} bytes without control bytes are wanted"
+    )
+}
+
+fn rounds_message(alloc: Global, values: &ArgMatches) -> Result<String, AllocError> {
+    let text = values.get_str("keep").unwrap_or("");
+    format!(in alloc;
+        "invalid value '{text}' for '--keep <ROUNDS>': rounds from 1 to {MAX_ROUNDS} as in 1-8,12 are wanted"
+    )
+}
+
+fn game_message(alloc: Global, values: &ArgMatches) -> Result<String, AllocError> {
+    let text = wrong_game(values);
+    format!(in alloc;
+        "invalid value '{text}' for '--keep-game <GAME>': two different teams from 1 to {MAX_TEAMS} as in 7-5 are wanted"
+    )
+}
+
+fn number_message(
+    alloc: Global,
+    values: &ArgMatches,
+    option: NumberOption,
+) -> Result<String, AllocError> {
+    let word = values.get_str(option.name()).unwrap_or("");
+    let wrong = WrongNumber { option, word };
+    format!(in alloc; "{wrong}")
+}
+
+/// Which names there are.
+fn name_message(alloc: Global, values: &ArgMatches) -> Result<String, AllocError> {
+    match values.get_str("symmetric") {
+        Some(name) => format!(in alloc;
+            "invalid value '{name}' for '--symmetric <BY>'\n  [possible values: {SYMMETRIES}]"
+        ),
+        None => format_message(alloc, values),
+    }
+}
+
 fn format_message(alloc: Global, values: &ArgMatches) -> Result<String, AllocError> {
     let name = values.get_str("format").unwrap_or("");
     let separator = values.get_str("separator").unwrap_or(",");
     match format_named(name, None, false) {
         Some(Format::Csv(_)) => format!(in alloc;
-            "invalid value '{separator}' for '--separator <SEPARATOR>'\n  [possible values: ',', ';', tab]"
+            "invalid value '{separator}' for '--separator <SEPARATOR>'\n  [possible values: {SEPARATORS}]"
         ),
         Some(_) => String::from_str(alloc, "--separator and --bom want --format csv"),
         None => format!(in alloc;
-            "invalid value '{name}' for '--format <FORMAT>'\n  [possible values: text, csv, html, names, json]"
+            "invalid value '{name}' for '--format <FORMAT>'\n  [possible values: {FORMATS}]"
         ),
     }
 }

@@ -1,94 +1,59 @@
-//! The command `report` and its options of formats. clap takes any text for a format and a separator, and a name that none has is
-//! refused here.
+//! What is asked for by `report`. clap takes any text for a format and a separator, and a name that none has is refused here.
 
-ghost use Rattle.std.specs.Prelude.{◌≡◌, IfOk, codes, false, fold};
-ghost use Rattle.clap.specs.Words.{app_of, found_of, rows_of, rule_of as rule_of_arg, with_rule};
-ghost use Rattle.options.specs.CommandLine.{app_of_command, flag, format_in, format_named, format_option, is_flagged, report_command, report_rules, rule_of};
-ghost use Rattle.options.specs.CommandLine.{separator_named, separator_of};
+ghost use Rattle.std.specs.Prelude.{◌≡◌, IfSome, option_map};
+ghost use Rattle.clap.specs.Words.{found_of, rows_of};
+ghost use Rattle.options.specs.CommandLine.{IsInRange, format_in, format_named, separator_named, separator_of};
 ghost use Rattle.options.specs.within.Files.{written};
 
-use crate::help::{BOM_HELP, FORMAT_HELP, REPORT_ABOUT, REPORT_LINES};
-use crate::text_args::{FROM, LEAGUE, NEAR, SCHEDULE, SEPARATOR};
+use crate::flag_args::BOM;
+use crate::job::Job;
+use crate::names::Names;
 use choices::{CsvForm, Format, Separator};
-use clap::builder::ValueParser;
-use clap::{Arg, ArgAction, ArgMatches, Command};
-use std::alloc::{AllocError, Global};
+use clap::ArgMatches;
 
-pub(crate) fn report_command<'a>(alloc: Global) -> Result<Command<'a>, AllocError>
-    ensures { IfOk result (λ c. app_of c ≡ app_of_command report_command) }
+/// The report that is asked for, unless it names what nothing has.
+pub(crate) fn report_of(values: &ArgMatches) -> Option<Job>
+    ensures job { result ≡ option_map Job.Report (format_in (rows_of (found_of values.now))) }
+    ensures in_range { IfSome result IsInRange }
 {
-    let command = Command::new(alloc, "report")
-        .about(REPORT_ABOUT)
-        .after_help(REPORT_LINES)
-        .arg(LEAGUE.word(alloc))?
-        .arg(SCHEDULE.word(alloc))?
-        .arg(format_arg(alloc))?;
-    with_report_options(alloc, command)
-}
-
-/// The command with the options that may be left out.
-fn with_report_options<'a>(alloc: Global, command: Command<'a>) -> Result<Command<'a>, AllocError>
-    ensures { IfOk result (λ c. app_of c ≡ fold with_rule (app_of command.entry) report_rules) }
-{
-    command
-        .arg(FROM.option(alloc))?
-        .arg(NEAR.option(alloc))?
-        .arg(SEPARATOR.option(alloc))?
-        .arg(bom_arg(alloc))
-}
-
-/// The option `--format NAME` as clap has it.
-fn format_arg<'a>(alloc: Global) -> Arg<'a>
-    ensures rule { rule_of_arg result ≡ rule_of format_option }
-    ensures local { result.global ≡ false }
-{
-    Arg::new(alloc, "format")
-        .long("format")
-        .value_name("FORMAT")
-        .value_parser(ValueParser::string())
-        .default_value("text")
-        .help(FORMAT_HELP)
-}
-
-/// The option `--bom` as clap has it.
-fn bom_arg<'a>(alloc: Global) -> Arg<'a>
-    ensures rule { rule_of_arg result ≡ flag (codes "bom") }
-    ensures local { result.global ≡ false }
-{
-    Arg::new(alloc, "bom")
-        .long("bom")
-        .action(ArgAction::SetTrue)
-        .help(BOM_HELP)
+    match format_of(values) {
+        Some(format) => Some(Job::Report(format)),
+        None => None,
+    }
 }
 
 /// The format that was named, or that stands for it, with what is asked for CSV, if there is one of that name.
-pub(crate) fn format_of(values: &ArgMatches) -> Option<Format>
+fn format_of(values: &ArgMatches) -> Option<Format>
     ensures { result ≡ format_in (rows_of (found_of values.now)) }
 {
     let separator = values.get_str("separator");
-    let has_mark = is_flagged(values, "bom");
+    let has_mark = BOM.is_given(values);
     match values.get_str("format") {
         Some(name) => format_named(name, separator, has_mark),
         None => None,
     }
 }
 
-/// Whether the option without a value is there.
-fn is_flagged(values: &ArgMatches, name: &str) -> bool
-    ensures { result ≡ is_flagged name.now (rows_of (found_of values.now)) }
-{
-    // `get_flag` has no clause for a text that is no `bool`
-    match values.get_str(name) {
-        Some(text) => text == "true",
-        None => false,
-    }
-}
+pub(crate) const TEXT: &str = "text";
+
+const CSV: &str = "csv";
+
+const HTML: &str = "html";
+
+const NAMES: &str = "names";
+
+const JSON: &str = "json";
+
+/// What `--format` takes.
+pub(crate) const FORMATS: Names = Names {
+    all: &[TEXT, CSV, HTML, NAMES, JSON],
+};
 
 pub(crate) fn format_named(name: &str, separator: Option<&str>, has_mark: bool) -> Option<Format>
     ensures { result ≡ format_named name.now (written separator.entry) has_mark }
 {
     match name {
-        "csv" => {
+        CSV => {
             let separator = separator_of(separator)?;
             Some(Format::Csv(CsvForm {
                 separator,
@@ -96,10 +61,10 @@ pub(crate) fn format_named(name: &str, separator: Option<&str>, has_mark: bool) 
             }))
         }
         _ if separator.is_some() || has_mark => None,
-        "text" => Some(Format::Text),
-        "html" => Some(Format::Html),
-        "names" => Some(Format::Names),
-        "json" => Some(Format::Json),
+        TEXT => Some(Format::Text),
+        HTML => Some(Format::Html),
+        NAMES => Some(Format::Names),
+        JSON => Some(Format::Json),
         _ => None,
     }
 }
@@ -114,13 +79,24 @@ pub(crate) fn separator_of(name: Option<&str>) -> Option<Separator>
     }
 }
 
+const COMMA: &str = ",";
+
+const SEMICOLON: &str = ";";
+
+const TAB: &str = "tab";
+
+/// What `--separator` takes.
+pub(crate) const SEPARATORS: Names = Names {
+    all: &[COMMA, SEMICOLON, TAB],
+};
+
 fn separator_named(name: &str) -> Option<Separator>
     ensures { result ≡ separator_named name.now }
 {
     match name {
-        "," => Some(Separator::Comma),
-        ";" => Some(Separator::Semicolon),
-        "tab" => Some(Separator::Tab),
+        COMMA => Some(Separator::Comma),
+        SEMICOLON => Some(Separator::Semicolon),
+        TAB => Some(Separator::Tab),
         _ => None,
     }
 }

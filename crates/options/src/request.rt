@@ -5,7 +5,7 @@ ghost use Rattle.clap.specs.Words.{found_of, rows_of, subcommand_rows_of};
 ghost use Rattle.options.specs.Beginnings.{beginning_in, beginning_of};
 ghost use Rattle.options.specs.CommandLine.{IsInRange, asks_for_all, beginning_of_command, job_of_command, title_of_command};
 ghost use Rattle.options.specs.within.CommandLine.{NamesACommand};
-ghost use Rattle.options.specs.within.Refusals.{beginning_refusal, refusal_of, values_refusal};
+ghost use Rattle.options.specs.within.Refusals.{beginning_refusal, job_refusal, refusal_of, values_refusal};
 ghost use Rattle.options.specs.Files.{files_of, files_of_command};
 ghost use Rattle.league.specs.Labels.{is_title};
 
@@ -18,7 +18,7 @@ use clap::ArgMatches;
 use std::alloc::Global;
 
 /// The job that the program is asked to do, with which files, what a league that is made is to be called, and where boards begin.
-#[derive(Debug, Drop)]
+#[derive(Drop)]
 pub struct Request {
     pub job: Job,
     pub files: FileWords,
@@ -43,12 +43,22 @@ pub(crate) fn request_of(alloc: Global, matches: &ArgMatches) -> Result<Request,
     ensures why { IfErr result (λ refusal. (refusal ≡ Refusal.Memory)
         ⊎ (option_and_then refusal_of (subcommand_rows_of matches.now) ≡ Some refusal)) }
 {
-    let Some(job) = job_of(matches) else {
+    let Some((name, values)) = matches.subcommand() else {
         return Err(Refusal::Format);
     };
-    match matches.subcommand() {
-        Some((name, values)) => request_with(alloc, job, name, values),
-        None => Err(Refusal::Format),
+    match job_of(name, values) {
+        Some(job) => request_with(alloc, job, name, values),
+        None => Err(job_refusal(name)),
+    }
+}
+
+/// Why a command names no job.
+fn job_refusal(command: &str) -> Refusal
+    ensures { result ≡ job_refusal command.now }
+{
+    match command {
+        "improve" => Refusal::Effort,
+        _ => Refusal::Format,
     }
 }
 
@@ -81,20 +91,21 @@ fn request_with(
     if !has_title(values) {
         return Err(Refusal::Name);
     }
-    let Ok(files) = files_in(alloc, values) else {
-        return Err(Refusal::Memory);
+    let beginning = match beginning_in(alloc, values) {
+        Ok(beginning) => beginning,
+        Err(refusal) => return Err(refusal),
     };
     let Ok(title) = title_in(alloc, values) else {
         return Err(Refusal::Memory);
     };
-    match beginning_in(alloc, values) {
-        Ok(beginning) => Ok(Request {
+    match files_in(alloc, values) {
+        Ok(files) => Ok(Request {
             job,
             files,
             title,
             beginning,
         }),
-        Err(refusal) => Err(refusal),
+        Err(_) => Err(Refusal::Memory),
     }
 }
 

@@ -1,16 +1,16 @@
 //! Words and options that may be left out, and then have no value.
 
-ghost use Rattle.std.specs.Prelude.{◌≡◌, IfOk, false, fold};
-ghost use Rattle.clap.specs.Words.{app_of, rule_of as rule_of_arg, with_rule};
-ghost use Rattle.options.specs.CommandLine.{file_rules, lettered, repeated, start_rules, text_option, word};
+ghost use Rattle.std.specs.Prelude.{◌≡◌, false};
+ghost use Rattle.clap.specs.Words.{rule_of as rule_of_arg};
+ghost use Rattle.options.specs.CommandLine.{lettered, repeated, text_option, word};
 
 use crate::help::{
     DISTANCES_HELP, FROM_HELP, KEEP_GAME_HELP, KEEP_HELP, LEAGUE_HELP, LOG_HELP, NAME_HELP,
     NEAR_HELP, OUTPUT_HELP, SCHEDULE_HELP, SCRIPT_HELP, SEPARATOR_HELP, SYMMETRIC_HELP,
 };
 use clap::builder::ValueParser;
-use clap::{Arg, ArgAction, Command};
-use std::alloc::{AllocError, Global};
+use clap::{Arg, ArgAction};
+use std::alloc::Global;
 
 /// A word or an option with a text.
 #[derive(Clone, Copy)]
@@ -76,25 +76,25 @@ pub(crate) const SEPARATOR: TextArg = TextArg {
     help: SEPARATOR_HELP,
 };
 
-const OUTPUT: TextArg = TextArg {
+pub(crate) const OUTPUT: TextArg = TextArg {
     name: "output",
     value_name: "FILE",
     help: OUTPUT_HELP,
 };
 
-const LOG: TextArg = TextArg {
+pub(crate) const LOG: TextArg = TextArg {
     name: "log",
     value_name: "FILE",
     help: LOG_HELP,
 };
 
-const KEEP: TextArg = TextArg {
+pub(crate) const KEEP: TextArg = TextArg {
     name: "keep",
     value_name: "ROUNDS",
     help: KEEP_HELP,
 };
 
-const KEEP_GAME: TextArg = TextArg {
+pub(crate) const KEEP_GAME: TextArg = TextArg {
     name: "keep-game",
     value_name: "GAME",
     help: KEEP_GAME_HELP,
@@ -121,7 +121,7 @@ impl TextArg {
     }
 
     /// An option `-s TEXT` or `--name TEXT` as clap has it.
-    fn lettered<'a>(&self, alloc: Global, letter: char) -> Arg<'a>
+    pub(crate) fn lettered<'a>(&self, alloc: Global, letter: char) -> Arg<'a>
         ensures rule { rule_of_arg result ≡ lettered letter (text_option self.now.name.now) }
         ensures local { result.global ≡ false }
     {
@@ -129,36 +129,10 @@ impl TextArg {
     }
 
     /// An option that can be given several times.
-    fn repeated<'a>(&self, alloc: Global) -> Arg<'a>
+    pub(crate) fn repeated<'a>(&self, alloc: Global) -> Arg<'a>
         ensures rule { rule_of_arg result ≡ repeated (text_option self.now.name.now) }
         ensures local { result.global ≡ false }
     {
         self.option(alloc).action(ArgAction::Append)
     }
-}
-
-/// The command with the options of files that are written.
-pub(crate) fn with_file_options<'a>(
-    alloc: Global,
-    command: Command<'a>,
-) -> Result<Command<'a>, AllocError>
-    ensures { IfOk result (λ c. app_of c ≡ fold with_rule (app_of command.entry) file_rules) }
-{
-    command
-        .arg(OUTPUT.lettered(alloc, 'o'))?
-        .arg(LOG.option(alloc))
-}
-
-/// The command with the options of a start.
-pub(crate) fn with_start_options<'a>(
-    alloc: Global,
-    command: Command<'a>,
-) -> Result<Command<'a>, AllocError>
-    ensures { IfOk result (λ c. app_of c ≡ fold with_rule (app_of command.entry) start_rules) }
-{
-    command
-        .arg(FROM.option(alloc))?
-        .arg(KEEP.option(alloc))?
-        .arg(KEEP_GAME.repeated(alloc))?
-        .arg(NEAR.option(alloc))
 }

@@ -3,18 +3,17 @@
 
 ghost use Rattle.std.specs.Prelude.{◌≡◌, None, Some, map, option_map, string_bytes};
 ghost use Rattle.clap.specs.Lexer.{long_of, name_and_value, strip_byte};
-ghost use Rattle.options.specs.within.CommandLine.{form_of};
-ghost use Rattle.options.specs.within.WrongNumbers.{cause_of, is_cause, is_negative, option_at, value_at, waits};
+ghost use Rattle.options.specs.within.WrongNumbers.{cause_of, is_cause, is_negative, option_at, value_at, waits, wanting_of};
 ghost use Rattle.options.specs.within.WrongNumbers.{wrong_from, wrong_if_any, wrong_of, wrong_words};
 
-use crate::number_args::{NumberArg, number_named};
+use crate::number_options::{NumberOption, number_named};
 use clap::error::ErrorKind;
 use std::fmt;
 
 /// A word that is no number that the option takes.
 #[derive(Clone, Copy)]
 pub(crate) struct WrongNumber<'a> {
-    pub(crate) arg: NumberArg,
+    pub(crate) option: NumberOption,
     pub(crate) word: &'a str,
 }
 
@@ -23,17 +22,12 @@ impl fmt::Display for WrongNumber<'_> {
     ghost output = { λ wrong. Some (wrong_words wrong) };
 
     fn fmt<W: fmt::Write>(&self, f: &mut fmt::Formatter<W>) -> fmt::Result {
-        let word = self.word;
-        let NumberArg {
-            name,
-            value_name,
-            least,
-            most,
-            ..
-        } = self.arg;
+        let WrongNumber { option, word } = *self;
+        let name = option.name();
+        let value_name = option.value_name();
         write!(
             f,
-            "invalid value '{word}' for '--{name} <{value_name}>': a whole number from {least} to {most} is wanted"
+            "invalid value '{word}' for '--{name} <{value_name}>': {option} is wanted"
         )
     }
 }
@@ -80,29 +74,29 @@ fn first_wrong<'a>(command: &str, words: &'a [String]) -> Option<WrongNumber<'a>
         if word == "--" {
             return None;
         }
-        let arg = option_at(command, waiting, word);
+        let option = option_at(command, waiting, word);
         let value = value_at(waiting, word);
-        if let Some(wrong) = wrong_if_any(arg, value) {
+        if let Some(wrong) = wrong_if_any(option, value) {
             return Some(wrong);
         }
-        waiting = waits(arg, value);
+        waiting = waits(option, value);
     }
     None
 }
 
 /// The value, if the option doesn't take it.
-fn wrong_if_any<'a>(arg: Option<NumberArg>, value: Option<&'a str>) -> Option<WrongNumber<'a>>
-    ensures { option_map wrong_of result ≡ wrong_if_any (option_map form_of arg) (option_map (λ s. s.now) value.entry) }
+fn wrong_if_any<'a>(option: Option<NumberOption>, value: Option<&'a str>) -> Option<WrongNumber<'a>>
+    ensures { option_map wrong_of result ≡ wrong_if_any (option_map wanting_of option) (option_map (λ s. s.now) value.entry) }
 {
-    match (arg, value) {
-        (Some(arg), Some(word)) if !arg.takes(word) => Some(WrongNumber { arg, word }),
+    match (option, value) {
+        (Some(option), Some(word)) if !option.takes(word) => Some(WrongNumber { option, word }),
         _ => None,
     }
 }
 
 /// The option that a word is about.
-fn option_at(command: &str, waiting: Option<NumberArg>, word: &str) -> Option<NumberArg>
-    ensures { option_map form_of result ≡ option_at command.now (option_map form_of waiting) word.now }
+fn option_at(command: &str, waiting: Option<NumberOption>, word: &str) -> Option<NumberOption>
+    ensures { option_map wanting_of result ≡ option_at command.now (option_map wanting_of waiting) word.now }
 {
     if waiting.is_some() {
         return waiting;
@@ -114,8 +108,8 @@ fn option_at(command: &str, waiting: Option<NumberArg>, word: &str) -> Option<Nu
 }
 
 /// The value that a word has of the option that it is about.
-fn value_at<'a>(waiting: Option<NumberArg>, word: &'a str) -> Option<&'a str>
-    ensures { option_map (λ s. s.now) result ≡ value_at (option_map form_of waiting) word.entry.now }
+fn value_at<'a>(waiting: Option<NumberOption>, word: &'a str) -> Option<&'a str>
+    ensures { option_map (λ s. s.now) result ≡ value_at (option_map wanting_of waiting) word.entry.now }
 {
     if waiting.is_some() {
         return Some(word);
@@ -127,12 +121,12 @@ fn value_at<'a>(waiting: Option<NumberArg>, word: &'a str) -> Option<&'a str>
 }
 
 /// The option that waits for its value.
-fn waits(arg: Option<NumberArg>, value: Option<&str>) -> Option<NumberArg>
-    ensures { option_map form_of result ≡ waits (option_map form_of arg) (option_map (λ s. s.now) value.entry) }
+fn waits(option: Option<NumberOption>, value: Option<&str>) -> Option<NumberOption>
+    ensures { option_map wanting_of result ≡ waits (option_map wanting_of option) (option_map (λ s. s.now) value.entry) }
 {
     match value {
         Some(_) => None,
-        None => arg,
+        None => option,
     }
 }
 

@@ -1,5 +1,5 @@
 -- What private functions alone need beside specs/Files.antt and specs/FileClash.antt.
-use Rattle.std.specs.Prelude.{◌++◌, List, [], Option, codes, if◌then◌else◌, option_map, unwrap_or}
+use Rattle.std.specs.Prelude.{◌++◌, [], Option, codes, if◌then◌else◌, option_map, unwrap_or}
 use Rattle.std.specs.Borrow.{Bor}
 use Rattle.clap.specs.Words.{Text}
 use Rattle.options.specs.Files.{Files, is_input, is_same}

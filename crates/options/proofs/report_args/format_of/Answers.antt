@@ -8,7 +8,7 @@ returns-in-Some c =
     let found = found_of c.args.values.now in
     let name = (rw c.in-Some.is at c.get_str.ensures) ∙ first_value-rows found (codes "format") in
     let separator = c.get_str-separator.ensures ∙ first_value-rows found (codes "separator") in
-    c.format_named.ensures ∙ rw (← name, separator, c.is_flagged-has_mark.ensures) refl
+    c.format_named.ensures ∙ rw (← name, separator, c.is_given-has_mark.ensures) refl
 
 pub returns-in-None : goal.returns-in-None
 returns-in-None c =
