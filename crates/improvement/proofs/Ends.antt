@@ -1,5 +1,5 @@
 -- The end of an improvement: what is written when all legs were reported, and what the sink has got.
-use Rattle.std.proofs.Common.{◌≡◌, ℕ, ◌≤◌, Bool, true, List, [], ◌++◌, length, All, Option, Result, Ok, Err, refl, sym, ◌∙◌, ap, subst, inr, arith}
+use Rattle.std.proofs.Common.{◌≡◌, ℕ, ◌≤◌, Bool, true, List, [], ◌++◌, length, All, Option, Result, Ok, Err, refl, sym, ◌∙◌, ap, subst, inl, inr, arith}
 use Rattle.std.specs.Borrow.{MutBor}
 use Rattle.std.specs.Io.KnownBytes.{Appends}
 use Rattle.league.specs.League.{IsLeague, LeagueData}
@@ -24,6 +24,7 @@ use Rattle.improvement.specs.within.Chains.{IsInLeague}
 use Rattle.improvement.specs.Legs.{AreLegs, IsWorkers, LegRun, lead_of, room_of}
 use Rattle.improvement.specs.LegText.{improve_text, legs_text}
 use Rattle.improvement.specs.Outcome.{Improves}
+use Rattle.improvement.specs.within.Settings.{MayRefuse}
 use Rattle.improvement.specs.within.UnderWay.{EndsBy, HasRunAll, HasStopped, HasWritten, Sends, end_text}
 use Rattle.improvement.proofs.Bests.{chains_in}
 use Rattle.improvement.proofs.Leads.{lead_legal}
@@ -68,6 +69,13 @@ module _ {W : Type 0} (held : W → Option (List ℕ)) (tally : W → Tally) (st
   }
 
 -- ---- what the sink has got
+
+-- nothing
+pub refused : {W : Type 0} (held : W → Option (List ℕ)) (tally : W → Tally) (league : LeagueData) (plan : ImprovePlan) (sink : W)
+    (fault : ImproveFault) → MayRefuse plan fault → Improves held tally league plan sink sink (Err fault)
+refused held tally league plan sink Workers wrong = (wrong, refl)
+refused held tally league plan sink Memory workers = (workers, inl refl)
+refused held tally league plan sink Write never = absurd never
 
 module _ {W : Type 0} (held : W → Option (List ℕ)) (tally : W → Tally) (start : Book) (plan : ImprovePlan) (sink : MutBor W)
     (limits : IsLeague start.league) (workers : IsWorkers plan)

@@ -6,7 +6,6 @@ ghost use Rattle.byte_streams.specs.declared.buffered.BufferedSink.{BufferedSink
 ghost use Rattle.byte_streams.specs.Writing.{Writes, waiting_in};
 ghost use Rattle.league.specs.League.{IsLeague, teams};
 ghost use Rattle.draws.specs.Draws.{AreRoundsOf};
-ghost use Rattle.annealing.specs.Walks.{IsUnitOf};
 ghost use Rattle.improvement.specs.Legs.{IsWorkers, LegRun, room_of};
 ghost use Rattle.improvement.specs.within.Chains.{IsInLeague};
 ghost use Rattle.improvement.specs.within.Lines.{CanEnd, IsLine, IsRunning, left_in, assigned_steps};
@@ -25,10 +24,9 @@ use crate::reported_leg::ReportedLeg;
 use crate::rounds::free_rounds;
 use crate::setting::{Setting, start_board};
 use crate::watcher::{LegEnded, Watcher, Written};
-use annealing::{Annealed, Unit, measure};
+use annealing::{Annealed, measure};
 use board_texts::write_improved;
 use byte_streams::{BufferedSink, Sink, WriteFault};
-use choices::MAX_WORKERS;
 use draws::{Gate, RunContext};
 use fixture_board::{Best, Board};
 use league::League;
@@ -52,19 +50,14 @@ pub fn improve<T: Threads + Wait + Sync, G: Gate + Sync, W: Sink, V: Watcher<W> 
     requires most { plan.effort ≤ max_effort }
     ensures { Improves W.held W.tally league plan sink.old sink.new result }
 {
-    if plan.workers < 1 || MAX_WORKERS < plan.workers {
-        return Err(ImproveFault::Workers);
-    }
-    let unit = measure(run_context.alloc, &league)?;
-    let start = start_board(run_context.alloc, league, plan.effort)?;
-    improve_from(run_context, &start, unit, plan, sink, watcher)
+    let start = start_board(run_context.alloc, league, plan)?;
+    improve_from(run_context, &start, plan, sink, watcher)
 }
 
-/// Improves from a board at the league's start, whose unit this is.
+/// Improves from a board at the league's start.
 fn improve_from<T: Threads + Wait + Sync, G: Gate + Sync, W: Sink, V: Watcher<W> + Drop>(
     run_context: RunContext<'_, T, G>,
     start: &Board,
-    unit: Unit,
     plan: ImprovePlan,
     sink: &mut W,
     watcher: V,
@@ -73,9 +66,9 @@ fn improve_from<T: Threads + Wait + Sync, G: Gate + Sync, W: Sink, V: Watcher<W>
     requires room { start.now.room ≡ room_of plan.effort }
     requires workers { IsWorkers plan }
     requires effort { plan.effort ≤ max_effort }
-    requires unit { IsUnitOf start.now.league unit }
     ensures { Improves W.held W.tally start.now.league plan sink.old sink.new result }
 {
+    let unit = measure(run_context.alloc, start.league())?;
     let rounds = free_rounds(run_context.alloc, start)?;
     let setting = Setting {
         run_context,

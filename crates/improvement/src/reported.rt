@@ -59,11 +59,7 @@ impl Reported {
         ensures improves { IfOk result (λ improves. improves ≡
             takes_lead self.old.lead.league self.old.legs self.old.lead.history board.now.history) }
     {
-        let improves = self.legs == 0 || Standing::of(board).improves(Standing::of(&self.lead));
-        if improves {
-            self.lead = board.duplicate(alloc)?;
-            self.lead.rewind_to_best();
-        }
+        let improves = lead_on(&mut self.lead, alloc, self.legs, board)?;
         self.chains.offer(alloc, chain, board)?;
         self.least = lesser(self.least, board.best().map(|best| best.total));
         self.legs += 1;
@@ -76,6 +72,28 @@ impl Reported {
     {
         if wanted { Some(&self.lead) } else { None }
     }
+}
+
+/// Has the history of one more leg lead, if it is better than the one that leads after so many legs. Tells whether it is.
+fn lead_on(
+    lead: &mut Board,
+    alloc: Global,
+    reported: u64,
+    board: &Board,
+) -> Result<bool, AllocError>
+    requires league { board.now.league ≡ lead.old.league }
+    requires room { board.now.room ≡ lead.old.room }
+    ensures lead { OnOk result (lead.new ≡ book lead.old.league lead.old.room
+        (lead_after lead.old.league reported lead.old.history board.now.history)) }
+    ensures improves { IfOk result (λ improves. improves ≡
+        takes_lead lead.old.league reported lead.old.history board.now.history) }
+{
+    if reported > 0 && !Standing::of(board).improves(Standing::of(lead)) {
+        return Ok(false);
+    }
+    *lead = board.duplicate(alloc)?;
+    lead.rewind_to_best();
+    Ok(true)
 }
 
 /// The lesser of two totals, if there are any.

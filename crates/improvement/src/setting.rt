@@ -1,13 +1,14 @@
 //! The setting that all legs of an improvement share.
 
-ghost use Rattle.std.specs.Prelude.{◌≡◌, [], IfOk, unwrap_or};
+ghost use Rattle.std.specs.Prelude.{◌≡◌, [], IfErr, IfOk, unwrap_or};
 ghost use Rattle.fixture_board.specs.Record.{book};
-ghost use Rattle.improvement.specs.Legs.{room_of};
+ghost use Rattle.improvement.specs.Legs.{IsWorkers, room_of};
 ghost use Rattle.improvement.specs.within.Lines.{anew};
+ghost use Rattle.improvement.specs.within.Settings.{MayRefuse};
 
-use crate::plan::ImprovePlan;
+use crate::plan::{ImproveFault, ImprovePlan};
 use annealing::Unit;
-use choices::MAX_ROOM;
+use choices::{MAX_ROOM, MAX_WORKERS};
 use draws::RunContext;
 use fixture_board::Board;
 use league::League;
@@ -37,13 +38,22 @@ impl<T, G> Setting<'_, T, G> {
     }
 }
 
-/// A board at the league's start, with room for so many steps.
-pub(crate) fn start_board(alloc: Global, league: League, effort: u64) -> Result<Board, AllocError>
-    ensures { IfOk result (λ b. b ≡ book league (room_of effort) []) }
+/// A board at the league's start, with room for the steps of the plan, unless the number of workers in that is wrong.
+pub(crate) fn start_board(
+    alloc: Global,
+    league: League,
+    plan: ImprovePlan,
+) -> Result<Board, ImproveFault>
+    ensures board { IfOk result (λ b. b ≡ book league (room_of plan.effort) []) }
+    ensures workers { IfOk result (λ b. IsWorkers plan) }
+    ensures refused { IfErr result (MayRefuse plan) }
 {
-    let room = effort.min(u64::from(MAX_ROOM)) as u32;
+    if plan.workers < 1 || MAX_WORKERS < plan.workers {
+        return Err(ImproveFault::Workers);
+    }
+    let room = plan.effort.min(u64::from(MAX_ROOM)) as u32;
     match Board::new(alloc, league, room) {
         Ok(board) => Ok(board),
-        Err(_) => Err(AllocError),
+        Err(_) => Err(ImproveFault::Memory),
     }
 }

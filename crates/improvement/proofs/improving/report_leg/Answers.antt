@@ -1,4 +1,4 @@
-use Rattle.std.proofs.Common.{[], arith}
+use Rattle.std.proofs.Common.{[], ◌∷◌, arith}
 use Rattle.std.proofs.lemmas.List.Elements.{All-head}
 use Rattle.std.proofs.lemmas.Result.{err_from_is_err_and}
 use Rattle.improvement.specs.within.Lines.{IsRunning}
@@ -22,7 +22,7 @@ report-requires-clause-few g c =
     )
 
 pub report-requires-clause-told : goal.report-requires-clause-told
-report-requires-clause-told g c =
+report-requires-clause-told g c = λ κs within.
     let w = c.requires.under_way in (
       w.legs,
       w.told,

@@ -9,7 +9,7 @@ returns-in_err-reported g c =
     rw (p.1, p.2) (sent_none g.W.Sink.held g.W.Sink.tally s.start.now s.plan c.args.out.now c.requires.none)
 
 pub run_line-requires-clause-under_way : goal.run_line-requires-clause-under_way
-run_line-requires-clause-under_way g c =
+run_line-requires-clause-under_way g c = λ κs within.
     let s = c.args.setting in
     under_way_none g.W.Sink.held g.W.Sink.tally s.start.now s.plan c.args.out.now c.new-line.result c.in_ok-reported.reported c.requires.none
     c.new-line.ensures.line c.new-line.ensures.left c.in_ok-reported.ensures
