@@ -7,102 +7,56 @@ use std::alloc::Global;
 use std::process::Abort;
 use std::test::Fail;
 
-/// A command, its option, how help calls the option's number, and what is wanted.
+/// A command, its option, how help calls the option's number, and the range of it.
 type Numbered<'a> = (&'a str, &'a str, &'a str, &'a str);
 
-const ROOM: Numbered<'_> = ("play", "--room", "<N>", "a whole number from 0 to 1048576");
+const ROOM: Numbered<'_> = ("play", "--room", "<N>", "0 to 1048576");
 
-const WORKERS: Numbered<'_> = ("improve", "--workers", "<W>", "a whole number from 1 to 16");
+const WORKERS: Numbered<'_> = ("improve", "--workers", "<W>", "1 to 16");
 
-const EFFORT: Numbered<'_> = (
-    "improve",
-    "--effort",
-    "<E>",
-    "a number from 0.001 to 1000000 with at most three decimals",
-);
+const EFFORT: Numbered<'_> = ("improve", "--effort", "<E>", "0.001 to 1000000");
 
-const SECONDS: Numbered<'_> = (
-    "improve",
-    "--seconds",
-    "<S>",
-    "a whole number from 1 to 1000000",
-);
+const SECONDS: Numbered<'_> = ("improve", "--seconds", "<S>", "1 to 1000000");
 
-const STEPS: Numbered<'_> = (
-    "search",
-    "--steps",
-    "<T>",
-    "a whole number from 0 to 1000000",
-);
+const STEPS: Numbered<'_> = ("search", "--steps", "<T>", "0 to 1000000");
 
-const NEAR: Numbered<'_> = (
-    "search",
-    "--near",
-    "<W>",
-    "a whole number from 0 to 1000000",
-);
+const NEAR: Numbered<'_> = ("search", "--near", "<W>", "0 to 1000000");
 
-const AT_MOST: Numbered<'_> = ("league", "--at-most", "<N>", "a whole number from 1 to 78");
+const AT_MOST: Numbered<'_> = ("league", "--at-most", "<N>", "1 to 78");
 
-const HARD_WEIGHT: Numbered<'_> = (
-    "league",
-    "--hard-weight",
-    "<N>",
-    "a whole number from 1 to 1000000",
-);
+const HARD_WEIGHT: Numbered<'_> = ("league", "--hard-weight", "<N>", "1 to 1000000");
 
 /// Each option that wants a number.
 const NUMBERED: &[Numbered<'_>] = &[
     ROOM,
-    ("play", "--near", "<W>", "a whole number from 0 to 1000000"),
+    ("play", "--near", "<W>", "0 to 1000000"),
     WORKERS,
-    (
-        "improve",
-        "--seed",
-        "<S>",
-        "a whole number from 0 to 18446744073709551615",
-    ),
+    ("improve", "--seed", "<S>", "0 to 18446744073709551615"),
     EFFORT,
     SECONDS,
-    (
-        "improve",
-        "--near",
-        "<W>",
-        "a whole number from 0 to 1000000",
-    ),
-    (
-        "search",
-        "--room",
-        "<N>",
-        "a whole number from 0 to 1048576",
-    ),
-    ("search", "--workers", "<W>", "a whole number from 1 to 16"),
-    (
-        "search",
-        "--seed",
-        "<S>",
-        "a whole number from 0 to 18446744073709551615",
-    ),
+    ("improve", "--near", "<W>", "0 to 1000000"),
+    ("search", "--room", "<N>", "0 to 1048576"),
+    ("search", "--workers", "<W>", "1 to 16"),
+    ("search", "--seed", "<S>", "0 to 18446744073709551615"),
     STEPS,
-    (
-        "search",
-        "--slack",
-        "<X>",
-        "a whole number from 0 to 18446744073709551615",
-    ),
+    ("search", "--slack", "<X>", "0 to 18446744073709551615"),
     NEAR,
-    (
-        "report",
-        "--near",
-        "<W>",
-        "a whole number from 0 to 1000000",
-    ),
+    ("report", "--near", "<W>", "0 to 1000000"),
     AT_MOST,
     HARD_WEIGHT,
 ];
 
 /// Words that no option takes for a number.
 const NO_NUMBERS: &[&str] = &["many", "-1", "-0", "1.5.5", "1e3", "99999999999999999999"];
+
+/// Which numbers the option wants, before and behind their range.
+fn wanted(option: &str) -> (&'static str, &'static str) {
+    if option == "--effort" {
+        ("a number from", "with at most three decimals is wanted")
+    } else {
+        ("a whole number from", "is wanted")
+    }
+}
 
 /// The words that stand behind a command in its usage.
 fn places(command: &str) -> &'static str {
@@ -126,10 +80,10 @@ fn check_wanted(
     numbered: &Numbered<'_>,
     word: &str,
 ) -> Result<(), Fail> {
-    let (command, option, value_name, wants) = *numbered;
-    let places = places(command);
+    let (command, option, value_name, range) = *numbered;
+    let ((before, behind), places) = (wanted(option), places(command));
     let wanted = format!(in alloc;
-        "error: invalid value '{word}' for '{option} {value_name}': {wants} is wanted\n\n\
+        "error: invalid value '{word}' for '{option} {value_name}': {before} {range} {behind}\n\n\
         Usage: ttp {command} [OPTIONS] {places}\n\nFor more information, try '--help'.\n"
     )?;
     let attached = format!(in alloc; "{option}={word}")?;
