@@ -2,7 +2,7 @@
 use Rattle.std.specs.Prelude.{◌≡◌, ℕ, List, None, Result, Ok, Err}
 use Rattle.league.specs.League.{LeagueData}
 use Rattle.bounds.specs.Bounds.{AreTourBounds, IsBound}
-use Rattle.report_text.specs.BoundsText.{bounds_text}
+use Rattle.report_bounds.specs.BoundsText.{bounds_text}
 use Rattle.commands.specs.declared.fault.ProgramFault.{ProgramFault}
 use Rattle.commands.specs.Begun.{Begins, Refuses}
 

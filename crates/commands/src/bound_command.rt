@@ -7,7 +7,7 @@ use crate::begun::begun_league;
 use crate::fault::{ProgramFault, after_writing};
 use bounds::LeagueBounds;
 use byte_streams::{Sink, Source, read_all};
-use report_text::write_bounds;
+use report_bounds::write_bounds;
 use std::alloc::Global;
 
 /// Reads a league to the end of the source, and writes what no schedule of it without runs travels less than: a line for the tour of each

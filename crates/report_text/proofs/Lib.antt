@@ -2,4 +2,3 @@ pub mod Streaks
 pub mod Parts
 pub mod CostLines
 pub mod Figures
-mod Totals

@@ -1,6 +1,5 @@
 pub mod Runs
 pub mod CostText
 pub mod Report
-pub mod BoundsText
 pub mod Figures
 pub mod within

@@ -1,5 +1,5 @@
 use Rattle.std.proofs.Common.{refl}
-use Rattle.report_text.specs.BoundsText.{bounds_text}
+use Rattle.report_bounds.specs.BoundsText.{bounds_text}
 use Rattle.commands.specs.Bound.{AnswersBound}
 use Rattle.commands.proofs.Endings.{ends_written}
 use Rattle.commands.proofs.bound_command.bound_on.Goals as goal

@@ -1,6 +1,6 @@
 use Rattle.byte_streams.proofs.Pieces.{Adds-piece, Stops-in_pieces, Stops-writes}
-use Rattle.report_text.specs.BoundsText.{tour_bound_line}
-use Rattle.report_text.proofs.bounds_text.write_tours.Goals as goal
+use Rattle.report_bounds.specs.BoundsText.{tour_bound_line}
+use Rattle.report_bounds.proofs.bounds_text.write_tours.Goals as goal
 
 pub loop-team-preserved : goal.loop-team-preserved
 loop-team-preserved g c =

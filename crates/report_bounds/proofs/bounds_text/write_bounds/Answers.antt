@@ -1,6 +1,6 @@
 use Rattle.std.proofs.Common.{arith}
 use Rattle.byte_streams.proofs.Pieces.{Adds-delivers}
-use Rattle.report_text.proofs.bounds_text.write_bounds.Goals as goal
+use Rattle.report_bounds.proofs.bounds_text.write_bounds.Goals as goal
 
 pub returns-clause-prefix : goal.returns-clause-prefix
 returns-clause-prefix g c =

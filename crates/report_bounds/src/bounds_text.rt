@@ -7,7 +7,7 @@ ghost use Rattle.byte_streams.specs.Pieces.{pieces_below};
 ghost use Rattle.byte_streams.specs.Sending.{AppendsPrefix};
 ghost use Rattle.byte_streams.specs.Tally.{FailsWriting};
 ghost use Rattle.byte_streams.specs.Writing.{Writes};
-ghost use Rattle.report_text.specs.BoundsText.{bounds_text, tour_bound_line};
+ghost use Rattle.report_bounds.specs.BoundsText.{bounds_text, tour_bound_line};
 
 use bounds::LeagueBounds;
 use byte_streams::{BufferedSink, Sink, WriteFault};

@@ -1,8 +1,8 @@
 use Rattle.std.proofs.Common.{codes}
 use Rattle.byte_streams.proofs.Pieces.{Adds-writes, Stops-more, Stops-writes}
 use Rattle.text_lines.specs.Lines.{numbered}
-use Rattle.report_text.specs.BoundsText.{bounds_text}
-use Rattle.report_text.proofs.bounds_text.write_lines.Goals as goal
+use Rattle.report_bounds.specs.BoundsText.{bounds_text}
+use Rattle.report_bounds.proofs.bounds_text.write_lines.Goals as goal
 
 pub returns-in_err-write_tours : goal.returns-in_err-write_tours
 unfolding bounds_text
