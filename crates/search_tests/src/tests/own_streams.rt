@@ -99,6 +99,18 @@ fn drawn_anew(rt: &impl Abort, alloc: Global, first: u32, end: u32, steps: u32) 
     board
 }
 
+/// The board has the history of such a board.
+fn check_drawn(
+    rt: &impl Abort,
+    alloc: Global,
+    played: &Board,
+    (first, end): (u32, u32),
+    steps: u32,
+) {
+    let drawn = drawn_anew(rt, alloc, first, end, steps);
+    check_same_history(rt, played, &drawn);
+}
+
 fn check_many_accepted(rt: &impl Abort, reports: &Reports) {
     check_same(rt, &reports.len(), &(WORKERS as usize));
     for i in 0..reports.len() {
@@ -114,8 +126,7 @@ fn check_in_turn<R: Threads + Wait + Sync + Abort>(rt: &R, alloc: Global, asked:
     };
     let outcome = searched_with(rt, alloc, &gate, asked);
     check_many_accepted(rt, &outcome.reports);
-    let drawn = drawn_anew(rt, alloc, 0, WORKERS, STEPS);
-    check_same_history(rt, &outcome.board, &drawn);
+    check_drawn(rt, alloc, &outcome.board, (0, WORKERS), STEPS);
 }
 
 #[test]
@@ -157,9 +168,8 @@ fn check_alone<R: Wait + Abort>(rt: &R, alloc: Global, number: u32) {
         slack: u64::MAX,
     };
     let played = searched_alone(rt, alloc, plan);
-    let drawn = drawn_anew(rt, alloc, number, number.saturating_add(1), 200);
     check_holds_of(rt, &number, 50 < played.version());
-    check_same_history(rt, &played, &drawn);
+    check_drawn(rt, alloc, &played, (number, number.saturating_add(1)), 200);
 }
 
 #[test]
