@@ -8,7 +8,7 @@ use fixture_board::{Board, Reply};
 use fixtures::Schedule;
 use moves::check;
 use rand_pcg::Lcg64Xsh32;
-use search::{MAX_WORKERS, OwnDoor, Reports, SearchPlan, WorkerPlan, worker};
+use search::{MAX_WORKERS, Outcome, OwnDoor, Reports, SearchPlan, WorkerPlan, worker};
 use std::alloc::Global;
 use std::hint::spin_loop;
 use std::process::Abort;
@@ -118,13 +118,22 @@ fn check_many_accepted(rt: &impl Abort, reports: &Reports) {
     }
 }
 
-/// Workers that search one after the other are granted just the moves of their own streams that can be made.
-fn check_in_turn<R: Threads + Wait + Sync + Abort>(rt: &R, alloc: Global, asked: AskedRun) {
+/// A run whose workers search one after the other.
+fn searched_in_turn<R: Threads + Wait + Sync + Abort>(
+    rt: &R,
+    alloc: Global,
+    asked: AskedRun,
+) -> Outcome {
     let gate = Queue {
         arrived: AtomicU64::new(0),
         next: AtomicU64::new(0),
     };
-    let outcome = searched_with(rt, alloc, &gate, asked);
+    searched_with(rt, alloc, &gate, asked)
+}
+
+/// Workers that search one after the other are granted just the moves of their own streams that can be made.
+fn check_in_turn<R: Threads + Wait + Sync + Abort>(rt: &R, alloc: Global, asked: AskedRun) {
+    let outcome = searched_in_turn(rt, alloc, asked);
     check_many_accepted(rt, &outcome.reports);
     check_drawn(rt, alloc, &outcome.board, (0, WORKERS), STEPS);
 }
