@@ -26,8 +26,9 @@ fn twin_after(rt: &impl Abort, alloc: Global, asked: Asked, blocks: &[Block]) ->
     twin
 }
 
-/// The leg came to what its twin did.
-fn check_twin(rt: &impl Abort, found: &Annealed, twin: &Twin) {
+/// The leg came to what its twin does.
+fn check_twin(rt: &impl Abort, alloc: Global, asked: Asked, blocks: &[Block], found: &Annealed) {
+    let twin = twin_after(rt, alloc, asked, blocks);
     check_same_board(rt, &found.chain.board, &twin.board);
     check_same(rt, &u128::from(found.chain.weight), &twin.weight);
 }
@@ -37,7 +38,7 @@ fn check_blocks<R: Wait + Abort>(rt: &R, alloc: Global, asked: Asked, blocks: &[
     requires { IsLeg asked.leg }
 {
     let found = annealed(rt, alloc, asked);
-    check_twin(rt, &found, &twin_after(rt, alloc, asked, blocks));
+    check_twin(rt, alloc, asked, blocks, &found);
     found.end
 }
 

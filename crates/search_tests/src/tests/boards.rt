@@ -1,7 +1,7 @@
 //! Boards of leagues in a circle. What owns a board or a league has no way out but to end the test, since each `?` drops all that is
 //! held, and its proof with it.
 
-ghost use Rattle.std.specs.Prelude.{◌≡◌, [], IfOk};
+ghost use Rattle.std.specs.Prelude.{◌≡◌, []};
 
 use crate::tests::checks::check_same;
 use costs::Cost;
@@ -11,7 +11,6 @@ use league::{League, circular};
 use moves::{Move, apply, check};
 use std::alloc::Global;
 use std::process::Abort;
-use std::test::Fail;
 
 /// A league in a circle.
 pub(crate) fn circle(rt: &impl Abort, alloc: Global, teams: u8) -> League {
@@ -23,13 +22,6 @@ pub(crate) fn new_board(rt: &impl Abort, alloc: Global, league: League, room: u3
     ensures { result.history ≡ [] }
 {
     Board::new(alloc, league, room).expect(rt, "a board")
-}
-
-/// A new board of a league in a circle.
-pub(crate) fn board(alloc: Global, teams: u8, room: u32) -> Result<Board, Fail>
-    ensures { IfOk result (λ b. b.history ≡ []) }
-{
-    Ok(Board::new(alloc, circular(alloc, teams)?, room)?)
 }
 
 /// Where a league begins.

@@ -8,7 +8,7 @@ use fixture_board::{Board, Reply};
 use fixtures::Schedule;
 use moves::check;
 use rand_pcg::Lcg64Xsh32;
-use search::{MAX_WORKERS, OwnDoor, Reports, SearchPlan, WorkerPlan, worker};
+use search::{MAX_WORKERS, Outcome, OwnDoor, Reports, SearchPlan, WorkerPlan, worker};
 use std::alloc::Global;
 use std::hint::spin_loop;
 use std::process::Abort;
@@ -99,6 +99,18 @@ fn drawn_anew(rt: &impl Abort, alloc: Global, first: u32, end: u32, steps: u32) 
     board
 }
 
+/// The board has the history of such a board.
+fn check_drawn(
+    rt: &impl Abort,
+    alloc: Global,
+    played: &Board,
+    (first, end): (u32, u32),
+    steps: u32,
+) {
+    let drawn = drawn_anew(rt, alloc, first, end, steps);
+    check_same_history(rt, played, &drawn);
+}
+
 fn check_many_accepted(rt: &impl Abort, reports: &Reports) {
     check_same(rt, &reports.len(), &(WORKERS as usize));
     for i in 0..reports.len() {
@@ -106,16 +118,24 @@ fn check_many_accepted(rt: &impl Abort, reports: &Reports) {
     }
 }
 
-/// Workers that search one after the other are granted just the moves of their own streams that can be made.
-fn check_in_turn<R: Threads + Wait + Sync + Abort>(rt: &R, alloc: Global, asked: AskedRun) {
+/// A run whose workers search one after the other.
+fn searched_in_turn<R: Threads + Wait + Sync + Abort>(
+    rt: &R,
+    alloc: Global,
+    asked: AskedRun,
+) -> Outcome {
     let gate = Queue {
         arrived: AtomicU64::new(0),
         next: AtomicU64::new(0),
     };
-    let outcome = searched_with(rt, alloc, &gate, asked);
+    searched_with(rt, alloc, &gate, asked)
+}
+
+/// Workers that search one after the other are granted just the moves of their own streams that can be made.
+fn check_in_turn<R: Threads + Wait + Sync + Abort>(rt: &R, alloc: Global, asked: AskedRun) {
+    let outcome = searched_in_turn(rt, alloc, asked);
     check_many_accepted(rt, &outcome.reports);
-    let drawn = drawn_anew(rt, alloc, 0, WORKERS, STEPS);
-    check_same_history(rt, &outcome.board, &drawn);
+    check_drawn(rt, alloc, &outcome.board, (0, WORKERS), STEPS);
 }
 
 #[test]
@@ -157,9 +177,8 @@ fn check_alone<R: Wait + Abort>(rt: &R, alloc: Global, number: u32) {
         slack: u64::MAX,
     };
     let played = searched_alone(rt, alloc, plan);
-    let drawn = drawn_anew(rt, alloc, number, number.saturating_add(1), 200);
     check_holds_of(rt, &number, 50 < played.version());
-    check_same_history(rt, &played, &drawn);
+    check_drawn(rt, alloc, &played, (number, number.saturating_add(1)), 200);
 }
 
 #[test]

@@ -34,6 +34,16 @@ fn enter(board: &mut Board, change: Change) {
     };
 }
 
+/// Writes what was called, and a version.
+fn write_call<R: Wait>(rt: &R, log: &Mutex<String>, call: &str, version: u64) {
+    let _ = writeln!(log.lock(rt), "{call} {version}");
+}
+
+/// Writes that a worker passes the gate, with the number of its proposals before.
+fn write_passage<R: Wait>(rt: &R, log: &Mutex<String>, passage: &str, worker: u32, made: u32) {
+    let _ = writeln!(log.lock(rt), "{passage} {worker} {made}");
+}
+
 /// Writes a proposal and its reply.
 fn write_proposal(log: &mut String, proposal: Proposal, reply: Reply) {
     let Proposal {
@@ -91,7 +101,7 @@ impl Door for Recorder<'_> {
     fn look<R: Wait>(&mut self, rt: &R, copy: &mut Schedule) -> Seen {
         self.count();
         let seen = self.board.look(copy);
-        let _ = writeln!(self.log.lock(rt), "look {}", seen.version);
+        write_call(rt, self.log, "look", seen.version);
         seen
     }
 
@@ -108,7 +118,7 @@ impl Door for Recorder<'_> {
     fn front<R: Wait>(&mut self, rt: &R) -> u64 {
         self.count();
         let front = self.board.version();
-        let _ = writeln!(self.log.lock(rt), "front {front}");
+        write_call(rt, self.log, "front", front);
         front
     }
 
@@ -129,11 +139,11 @@ impl Gate for Passed<'_> {
     ghost was_reported = { λ _ _ _. Unit {0} };
 
     fn enter<R: Wait>(&self, rt: &R, worker: u32, made: u32) {
-        let _ = writeln!(self.log.lock(rt), "enter {worker} {made}");
+        write_passage(rt, self.log, "enter", worker, made);
     }
 
     fn left<R: Wait>(&self, rt: &R, worker: u32, made: u32, _reply: Reply) {
-        let _ = writeln!(self.log.lock(rt), "left {worker} {made}");
+        write_passage(rt, self.log, "left", worker, made);
     }
 
     fn reported<R: Wait>(&self, _rt: &R, _worker: u32, _progress: Progress) {}

@@ -51,6 +51,16 @@ fn run_of_eight(steps: u32, room: u32) -> AskedRun {
     }
 }
 
+/// Has the run report to a gate.
+fn report_to<R: Threads + Wait + Sync + Abort>(
+    rt: &R,
+    alloc: Global,
+    gate: &Listener,
+    asked: AskedRun,
+) {
+    searched_with(rt, alloc, gate, asked);
+}
+
 /// The run reports these lines.
 fn check_reported<R: Threads + Wait + Sync + Abort>(
     rt: &R,
@@ -60,7 +70,7 @@ fn check_reported<R: Threads + Wait + Sync + Abort>(
 ) {
     let log = Mutex::new(String::new(alloc));
     let gate = Listener { log };
-    searched_with(rt, alloc, &gate, asked);
+    report_to(rt, alloc, &gate, asked);
     check_same(rt, &gate.log.into_inner().as_str(), &lines);
 }
 

@@ -10,76 +10,66 @@ use search::{MAX_WORKERS, SearchPlan};
 use std::alloc::Global;
 use std::process::Abort;
 use std::sync::Wait;
-use std::test::Fail;
 use std::thread::Threads;
 
-/// Each move that can be made is granted.
-fn plan(workers: u32, steps: u32) -> SearchPlan {
-    SearchPlan {
+/// A run in which each move that can be made is granted.
+fn free_run(teams: u8, room: u32, workers: u32, steps: u32) -> AskedRun {
+    let plan = SearchPlan {
         workers,
         seed: 1,
         steps,
         slack: u64::MAX,
-    }
+    };
+    AskedRun { teams, room, plan }
 }
 
-/// The board changed, and costs what its schedule does.
-fn check_changed(rt: &impl Abort, board: &Board) {
-    let (found, wanted) = (board.cost(), cost_of(board.schedule(), board.league()));
-    check_same(rt, &(board.version() > 0, found), &(true, wanted));
+/// The board has so many entries, or some if no number is given, and costs what its schedule does.
+fn check_board(rt: &impl Abort, board: &Board, entries: Option<u64>) {
+    let wanted = entries.unwrap_or(board.version().max(1));
+    check_same(rt, &board.version(), &wanted);
+    check_same(
+        rt,
+        &board.cost(),
+        &cost_of(board.schedule(), board.league()),
+    );
 }
 
-/// So many workers change a board, and each has its report.
-fn check_workers<R: Threads + Wait + Sync + Abort>(
+/// Each worker of the run has its report.
+fn check_run<R: Threads + Wait + Sync + Abort>(
     rt: &R,
     alloc: Global,
-    teams: u8,
-    workers: u32,
-) -> Result<(), Fail> {
-    let (room, plan) = (4096, plan(workers, 100));
-    let outcome = searched(rt, alloc, AskedRun { teams, room, plan })?;
-    check_same(rt, &outcome.reports.len(), &(workers as usize));
-    check_changed(rt, &outcome.board);
-    Ok(())
+    asked: AskedRun,
+    entries: Option<u64>,
+) {
+    let outcome = searched(rt, alloc, asked);
+    check_same(rt, &outcome.reports.len(), &(asked.plan.workers as usize));
+    check_board(rt, &outcome.board, entries);
 }
 
 #[test]
-fn a_run_of_each_number_of_workers(rt: HostRuntime) -> Result<(), Fail> {
+fn a_run_of_each_number_of_workers(rt: HostRuntime) {
     for workers in 1..=MAX_WORKERS {
-        check_workers(&rt, rt.alloc(), 4, workers)?;
+        check_run(&rt, rt.alloc(), free_run(4, 4096, workers, 100), None);
     }
-    Ok(())
 }
 
 /// Teams and workers.
 const LARGER: [(u8, u32); 5] = [(6, 2), (8, 1), (10, 16), (20, 2), (40, 4)];
 
 #[test]
-fn runs_of_larger_leagues(rt: HostRuntime) -> Result<(), Fail> {
+fn runs_of_larger_leagues(rt: HostRuntime) {
     for (teams, workers) in LARGER {
-        check_workers(&rt, rt.alloc(), teams, workers)?;
+        check_run(&rt, rt.alloc(), free_run(teams, 4096, workers, 100), None);
     }
-    Ok(())
 }
 
-/// Three workers stop where the room is over. Any of them may find at any time that it is.
-fn check_full<R: Threads + Wait + Sync + Abort>(
-    rt: &R,
-    alloc: Global,
-    room: u32,
-) -> Result<(), Fail> {
-    let (teams, plan) = (4, plan(3, 2000));
-    let outcome = searched(rt, alloc, AskedRun { teams, room, plan })?;
-    check_same(rt, &outcome.board.version(), &u64::from(room));
-    Ok(())
-}
-
+/// Workers stop where the room is over. Any of them may find at any time that it is.
 #[test]
-fn a_history_of_each_length_to_200_by_three_workers(rt: HostRuntime) -> Result<(), Fail> {
+fn a_history_of_each_length_to_200_by_three_workers(rt: HostRuntime) {
     for room in 0..=200 {
-        check_full(&rt, rt.alloc(), room)?;
+        let entries = Some(u64::from(room));
+        check_run(&rt, rt.alloc(), free_run(4, room, 3, 2000), entries);
     }
-    Ok(())
 }
 
 const RUN_OF_SIX: AskedRun = AskedRun {
@@ -101,8 +91,7 @@ const SIXTH: Entry = Entry {
 /// Six proposals, each granted, are those of `asks 8 0 6 24 30 1024` of `scripts/oracle worker-steps`, a program written apart. With
 /// another seed, slack, number of steps or number of the worker it prints others.
 #[test]
-fn a_worker_has_the_numbers_of_the_plan(rt: HostRuntime) -> Result<(), Fail> {
-    let outcome = searched(&rt, rt.alloc(), RUN_OF_SIX)?;
+fn a_worker_has_the_numbers_of_the_plan(rt: HostRuntime) {
+    let outcome = searched(&rt, rt.alloc(), RUN_OF_SIX);
     check_end(&rt, &outcome.board, 6, SIXTH);
-    Ok(())
 }

@@ -1,13 +1,11 @@
 //! Runs on boards of leagues in a circle.
 
-use crate::tests::boards::{board, circle, new_board};
+use crate::tests::boards::{circle, new_board};
 use draws::{Gate, RunContext};
-use league::circular;
 use search::{Outcome, SearchPlan, run, run_with};
 use std::alloc::Global;
 use std::process::Abort;
 use std::sync::Wait;
-use std::test::Fail;
 use std::thread::Threads;
 
 /// A run on a new board of a league in a circle.
@@ -19,17 +17,15 @@ pub(crate) struct AskedRun {
 }
 
 /// The outcome of a run.
-pub(crate) fn searched<R: Threads + Wait + Sync>(
+pub(crate) fn searched<R: Threads + Wait + Sync + Abort>(
     rt: &R,
     alloc: Global,
     asked: AskedRun,
-) -> Result<Outcome, Fail> {
-    let league = circular(alloc, asked.teams)?;
-    let board = board(alloc, asked.teams, asked.room)?;
-    match run(rt, alloc, &league, board, asked.plan) {
-        Ok(outcome) => Ok(outcome),
-        Err(refused) => Err(refused.why.into()),
-    }
+) -> Outcome {
+    let league = circle(rt, alloc, asked.teams);
+    let board = new_board(rt, alloc, circle(rt, alloc, asked.teams), asked.room);
+    let outcome = run(rt, alloc, &league, board, asked.plan);
+    outcome.ok().expect(rt, "an outcome")
 }
 
 /// The outcome of a run through a gate.
