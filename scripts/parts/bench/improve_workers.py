@@ -18,7 +18,7 @@ WORKERS = (1, 2, 4)
 def timed(command, given, effort, workers):
     """What is written, and the seconds that it takes."""
     began = time.monotonic()
-    text = programs.text(command, "improve", "--workers", workers, "--effort", effort, given=given)
+    text = programs.text(command, "improve", "--workers", workers, "--effort", effort, "--history", given=given)
     return text, time.monotonic() - began
 
 

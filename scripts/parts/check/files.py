@@ -8,13 +8,12 @@ the program makes up. In each call, whatever its status, a file that is read sta
 refusal all stay so. The last line is 'N passed, M failed'; the status is 1 where a call failed."""
 import concurrent.futures
 import itertools
-import json
 import os
 import pathlib
 import subprocess
 import tempfile
 
-from .. import TOP, programs
+from .. import TOP, improvements, programs
 
 LEAGUE = (TOP / "leagues/circular-4.json").read_bytes()
 SHEET = (TOP / "crates/ttp/stdout").read_bytes()
@@ -78,7 +77,7 @@ def state(folder):
 def called(program, folder, words, given=None):
     """How an improvement ends that is called by these words, by what they name."""
     named = [word for role, name in words.items() if role != "LEAGUE" for word in (role, name)]
-    command = [program, "improve", words["LEAGUE"], "--effort", "1", *named]
+    command = [program, "improve", words["LEAGUE"], "--effort", "0.01", *named]
     with open(folder / given if given else os.devnull, "rb") as source:
         return subprocess.run(command, stdin=source, capture_output=True, cwd=folder, timeout=600, check=False)
 
@@ -93,14 +92,14 @@ def is_refused(ended, words, pair):
 
 def follow(before, after, folder, words, ended):
     """Whether the files that are written have what they have to, and all else is as it was."""
-    written = {}
+    written, lines = {}, ended.stdout.decode().splitlines()
     for role in set(words) - set(READ):
         written[str((folder / words[role]).resolve().relative_to(folder))] = role
+        text = (folder / words[role]).read_text(encoding="utf-8")
         if role == "--log":
-            legs = [json.loads(line) for line in (folder / words[role]).read_text(encoding="utf-8").splitlines()]
-            if not legs:
+            if not improvements.read_log(text):
                 return False
-        elif (folder / words[role]).read_bytes() != ended.stdout[(b"\n" + ended.stdout).index(b"\nhistory "):]:
+        elif text.splitlines() != improvements.ended(lines) or not text.endswith("\n"):
             return False
     return {name: text for name, text in before.items() if name not in written} == {
         name: text for name, text in after.items() if name not in written}

@@ -11,8 +11,8 @@ The files of a case, of which all but the first may be missing:
 
 In stdin, stdout and stderr a line `@FILE` stands for what is in that file. In the last two a line `...` stands for any lines, and
 `~ PATTERN` for a line of this pattern. All runs and all paths are in a copy of the repository. A session is an `sh` block of a page
-with the block behind it, where the text between says what it prints. The last line is 'N passed, M failed'; the status is 1 where a run
-failed."""
+with the block behind it, where the text between says what it prints; in that block such lines stand for the same. The last line is 'N
+passed, M failed'; the status is 1 where a run failed."""
 import concurrent.futures
 import os
 import pathlib
@@ -64,7 +64,7 @@ def session_runs(page, program):
     for commands, between, printed in SESSION.findall(page.read_text(encoding="utf-8")):
         if "prints" in between:
             command = ["bash", "-c", commands.replace("./ttp", shlex.quote(program))]
-            yield page.name, command, b"", (0, re.escape(printed.encode()), b"")
+            yield page.name, command, b"", (0, pattern(printed.encode()), b"")
 
 
 def main(*words):

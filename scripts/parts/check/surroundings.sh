@@ -57,16 +57,18 @@ is_last() { # STATUS LINE: that status, and the output's last line
     [ "$status $(tail -n 1 "$made/output")" = "$1 $2" ]
 }
 
-steps_of() { # TEXT: the steps of all legs
-    awk '/^leg / { steps += $12 } END { print steps + 0 }' "$1"
+steps_of() { # LOG [TEXT]: the steps of all legs, or a fault if the totals of the text aren't those of the log
+    python3 scripts/parts/improvements.py "$@" 2>&1
 }
 
-tail_of() { # TEXT: from the history on
-    sed -n '/^history /,$p' "$1"
+tail_of() { # TEXT: from the history on or, without one, from the last sheet on
+    local from='^league '
+    ! grep -q '^history ' "$1" || from='^history '
+    tac "$1" | sed "/$from/q" | tac
 }
 
 total_of() { # TEXT: that of its last line
-    sed -n '$s/^best \([0-9]*\) at .*/\1/p' "$1"
+    sed -n '$s/^best \([0-9]\{1,\}\).*/\1/p' "$1"
 }
 
 # a history that may get full
@@ -118,7 +120,7 @@ done
 run 'a closed output' shut start <"$league"
 judge ends 1 'ttp: output cannot be written'
 # whoever closes a pipe wants no more, so nothing is said
-run 'an improvement whose reader ends' cropped 1000 improve --effort 1 --workers 1 <"$league"
+run 'an improvement whose reader ends' cropped 100 improve --effort 1 --workers 1 <leagues/circular-10.json
 judge ends 1
 run 'a reader that ends while a play is written' cropped 100 play --room 20000 <"$made/long"
 judge ends 1
@@ -149,13 +151,13 @@ if script -qec true /dev/null </dev/null >"$made/error" 2>&1; then
     judge grep -q '^workers 4 steps 1000000 seed 1$' "$made/text"
     run 'a search that fills its room on a terminal' terminal "$league" search --workers 1 --steps 5000 --slack 30
     judge grep -q "$(<cases/search-fills/stderr)" "$made/output"
-    run 'an improvement on a terminal' terminal leagues/circular-10.json improve --effort 10
+    run 'an improvement on a terminal' terminal leagues/circular-10.json improve --effort 10 --log "$made/legs"
     judge is_progress 10000000
     judge grep -q '100 % steps 10000000 of 10000000 best' "$made/output"
     # the line is cut at the terminal's width, and without the sequences for that it would take two
     judge test "$(python3 scripts/parts/terminal.py 40 <"$made/output")" = 1
     judge test "$(sed 's/\x1b\[?7[lh]//g' "$made/output" | python3 scripts/parts/terminal.py 40)" -gt 1
-    judge test "$(steps_of "$made/text")" = 10000000
+    judge test "$(steps_of "$made/legs" "$made/text")" = 10000000
     from_terminal() { printf '\004' | script -qec "$(printf '%q ' "$program") start 2>$(printf '%q' "$made/text")" /dev/null; }
     run 'a start with standard input on a terminal' from_terminal
     judge grep -q '^remark: standard input is read, which is the terminal' "$made/text"
@@ -165,23 +167,6 @@ else
 fi
 
 # the files that follow an improvement
-are_logged() { # LOG TEXT: the log has the figures of the text's legs, one line of JSON for each
-    python3 - "$@" <<'END'
-import json
-import sys
-
-legs = [json.loads(line) for line in open(sys.argv[1])]
-words = [line.split() for line in open(sys.argv[2]) if line.startswith("leg ")]
-totals = [None if leg[17] == "none" else int(leg[17]) for leg in words]
-least = [min((t for t in totals[: count + 1] if t is not None), default=None) for count in range(len(totals))]
-names = ["leg", "chain", "steps", "accepted", "hard"]
-wanted = [[int(leg[at]) for at in (1, 3, 11, 13, 15)] + [total, low] for leg, total, low in zip(words, totals, least)]
-found = [[leg[name] for name in [*names, "best", "least"]] for leg in legs]
-seconds = [leg["seconds"] for leg in legs]
-sys.exit(not (legs and found == wanted and seconds == sorted(seconds) and 0 <= seconds[0]
-    and all(list(leg) == ["leg", "chain", "seconds", "steps", "accepted", "hard", "best", "least"] for leg in legs)))
-END
-}
 is_unwritten() { # FILE: status 1 and one line that says so; the text is that of an improvement without files
     ends 1 "ttp: $1: cannot be written" && cmp -s "$made/plain" "$made/output"
 }
@@ -198,23 +183,28 @@ six=("$program" improve leagues/circular-6.json --effort 1)
 run 'an improvement with a file and a log' "${six[@]}" -o "$followed/best.txt" --log "$followed/legs.txt" </dev/null
 judge is_output "$made/plain"
 judge follows "$followed/best.txt"
-judge are_logged "$followed/legs.txt" "$made/plain"
+judge test "$(steps_of "$followed/legs.txt" "$made/plain")" = 1000000
 judge test "$(names)" = 'best.txt legs.txt'
+run 'an improvement with its history' "${six[@]}" --history -o "$followed/best.txt" </dev/null
+judge ends 0
+judge follows "$followed/best.txt"
+judge test "$(head -n 1 "$followed/best.txt")" = "history $(sed -n '$s/.* at //p' "$made/output")"
+judge cmp -s <(sed '/^history /,/^end$/d; $s/ at .*//' "$made/output") "$made/plain"
 run 'an improvement that goes on from its file' "${six[@]}" --from "$followed/best.txt" --output "$followed/best.txt" --seed 2 </dev/null
 judge ends 0
 judge follows "$followed/best.txt"
 judge test "$(total_of "$followed/best.txt")" -le "$(total_of "$made/plain")"
-run 'improvements for three seconds' "${six[@]}" --seconds 3 -o "$followed/best.txt" </dev/null
+run 'improvements for three seconds' "${six[@]}" --seconds 3 -o "$followed/best.txt" --log "$followed/legs.txt" </dev/null
 judge ends 0
 judge follows "$followed/best.txt"
 # the first one is that without a time, and others follow
-sed '/^history /,$d' "$made/plain" >"$made/first"
+tac "$made/plain" | sed -n '/^-----*$/,$p' | tac >"$made/first"
 judge cmp -s "$made/first" <(head -n "$(wc -l <"$made/first")" "$made/output")
-judge test "$(steps_of "$made/output")" -gt 1000000
+judge test "$(steps_of "$followed/legs.txt" "$made/output")" -gt 1000000
 none=("$program" improve cases/improve-none/league.json --effort 1)
 run 'a file of a league that cannot be kept' "${none[@]}" -o "$followed/none.txt" --log="$followed/legs.txt" </dev/null
 judge follows "$followed/none.txt"
-judge are_logged "$followed/legs.txt" "$made/output"
+judge test "$(steps_of "$followed/legs.txt" "$made/output")" = 1000000
 for pause in 0 0.2 0.5 1; do
     rm -f "$followed/best.txt"
     "$program" improve leagues/circular-10.json --effort 1000 -o "$followed/best.txt" </dev/null >/dev/null 2>&1 &
@@ -289,7 +279,7 @@ judge follows "$followed/end/best.txt"
 judge test "$(readlink "$followed/link" "$followed/links" | paste -sd ' ')" = 'end/best.txt link'
 run 'a link as a log' "${six[@]}" --log "$followed/links" </dev/null
 judge is_output "$made/plain"
-judge are_logged "$followed/end/best.txt" "$made/plain"
+judge test "$(steps_of "$followed/end/best.txt" "$made/plain")" = 1000000
 judge test "$(names)" = 'best.txt end link links'
 at_once() {
     "${six[@]}" --seed 3 -o "$followed/best.txt" </dev/null >"$made/third" &
@@ -336,8 +326,8 @@ run 'a report of 1,000,000 games on a small stack' low report < <(games)
 judge test "$status $(head -n 1 "$made/output")" = '3 team 1 has 1000000 games in round 1'
 run 'a search of 16 workers on the largest league on a small stack' low search --workers 16 --steps 2 <"$made/largest"
 judge has_line 0 'workers 16 steps 2 seed 1'
-run 'an improvement by 16 workers on a small stack' low improve --workers 16 --effort 1 <leagues/circular-10.json
-judge test "$status $(steps_of "$made/output")" = '0 1000000'
+run 'an improvement by 16 workers on a small stack' low improve --workers 16 --effort 1 --log "$made/legs" <leagues/circular-10.json
+judge test "$status $(steps_of "$made/legs" "$made/output")" = '0 1000000'
 run 'a script of 20,000 lines on a small stack' low play --room 20000 <"$made/long"
 judge test "$status" = 0
 run 'help on a small stack' low --help </dev/null
@@ -418,14 +408,19 @@ done
 run './build with a word that is none' "${without[@]}" "$top/build" --instal / </dev/null
 judge ends 2 'usage: ./build [--install DIR]'
 if command -v rt >/dev/null; then
-    for words in 'search --workers=2 --steps 600000' 'improve --effort 2'; do
+    for words in 'search --workers=2 --steps 600000' 'improve --effort 2' 'improve --effort=1.001 --history'; do
         # shellcheck disable=SC2086
         run "./ttp $words, more than an unproved run can do" "$made/linked" $words <"$league"
         judge test "$status $(grep -c './build makes' "$made/error") $(wc -c <"$made/output")" = '126 1 0'
     done
-    run './ttp unproved' "$made/linked" search --workers 2 --steps 0 --seed 7 <"$league"
-    judge cmp -s <("$program" search --workers 2 --steps 0 --seed 7 <"$league") "$made/output"
+    # the first command of README
+    first=(improve leagues/circular-6.json --effort 0.1)
+    echo 83 >"$built/last-seconds"
+    run './ttp unproved' "$made/linked" "${first[@]}" </dev/null
+    judge cmp -s <("$program" "${first[@]}" </dev/null) "$made/output"
     judge test "$status $(wc -l <"$made/error")" = '0 1'
+    judge grep -q 'the last one here took 83 seconds' "$made/error"
+    judge test "$(<"$built/last-seconds")" != 83
 else
     echo 'check surroundings: there is no Rattle kit here (its command rt), so the program is not run unproved'
 fi

@@ -4,9 +4,9 @@ usage: scripts/oracle as-before FOLDER [RUNS [PROGRAM [COMMAND]]]     50 runs
 
 FOLDER holds this repository as it was, as `git worktree add FOLDER COMMIT` makes it. The older program runs unproved, by `rt try`, which
 compiles it once. Half of the runs are searches, each tenth is an improvement of four or six teams, and the others start, play and report in
-turn. A COMMAND is left out: improve, if it goes by other numbers than it did. The leagues are drawn, of 4 to 20 teams in the first two formats, with
-up to four rules of each kind, and so are the seed, the slack and the script. The last line is that of `rt try`, which counts the runs; the
-status is 1 if a text differs."""
+turn. A COMMAND is left out: improve, if it goes by other numbers than it did, or its older text had lines of legs. The leagues are drawn, of
+4 to 20 teams in the first two formats, with up to four rules of each kind, and so are the seed, the slack and the script. The last line is
+that of `rt try`, which counts the runs; the status is 1 if a text differs."""
 import json
 import pathlib
 import random

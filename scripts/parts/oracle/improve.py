@@ -1,31 +1,30 @@
 """takes the legs of improvements again, step by step
 
-usage: scripts/oracle improve [RUNS [SEED [PROGRAM]]]     20 improvements with an effort of 1, of 11 leagues in turn, the first one with
-                                                          the seed 1 and each with the next one
-       scripts/oracle improve text LEAGUE SEED < TEXT     one text of such an improvement
+usage: scripts/oracle improve [RUNS [SEED [PROGRAM]]]         20 improvements with an effort of 1, of 11 leagues in turn, the first one
+                                                              with the seed 1 and each with the next one
+       scripts/oracle improve text LEAGUE SEED LOG < TEXT     the log and the text of one such improvement with `--history`
 
-Each leg of `ttp improve` has to be the one that the policy asks for next, by what the lines before it came to. If it has at most LIMIT
-steps, and each leg before it of its chain had, its steps are taken again: then its whole line has to come, and the schedule behind it. So
-has the history in the end, if it is of such a chain. If no schedule is feasible the status is 3, and what is broken in the last one has to
-come, and how often that is in the best schedules of the chains, if all are such chains. LIMIT is a variable, 60000 if it isn't set. The
-last line is 'N improvements agree', or says which one doesn't, and in which line; the status is 1 then."""
+Each leg of `ttp improve`, by its log, has to be the one that the policy asks for next, by what those before it came to. If it has at most
+LIMIT steps, and each leg before it of its chain had, its steps are taken again: then all its figures have to come, and the schedule of its
+solution. So has the history in the end, if it is of such a chain. If no schedule is feasible the status is 3, and what is broken in the
+last one has to come, and how often that is in the best schedules of the chains, if all are such chains. LIMIT is a variable, 60000 if it
+isn't set. The last line is 'N improvements agree', or says which one doesn't, and in which leg or line; the status is 1 then."""
 import copy
 import itertools
 import json
 import os
 import pathlib
 import random
-import re
 import sys
+import tempfile
 from collections import Counter, deque
 
-from .. import annealing, case, leagues, model, programs, texts, waves
+from .. import annealing, case, improvements, leagues, model, programs, texts, waves
 
 LIMIT = int(os.environ.get("LIMIT", "60000"))
 EFFORT = 1_000_000
 # so many legs stand in line at most
 PLACES = 16
-FIGURES = r"accepted \d+ hard (?P<hard>\d+) best (?P<best>\d+|none)"
 # a drawn league, by the seed, beside those of a kind of distances
 DRAWN = ("drawn",)
 LEAGUES = (
@@ -48,12 +47,12 @@ class Entrant:
     """A chain: its number, itself if it is known, and its standing once it was told, of which a lesser one is better."""
 
     def __init__(self, number, chain):
-        self.number, self.chain, self.standing, self.steps, self.best = number, chain, None, 0, "none"
+        self.number, self.chain, self.standing, self.steps, self.best = number, chain, None, 0, None
 
     def tell(self, steps, hard, best):
         """What its last leg came to."""
         self.steps, self.best = steps, best
-        before, self.standing = self.standing, (True, int(hard)) if best == "none" else (False, int(best))
+        before, self.standing = self.standing, (True, hard) if best is None else (False, best)
         if before and not before[0] and before < self.standing:
             raise ValueError(f"the least total of chain {self.number} rises")
 
@@ -105,29 +104,23 @@ class Text:
     def __init__(self, lines):
         self.lines, self.read = lines, 0
 
-    def next(self, is_wanted, wanted):
-        line = self.lines[self.read] if self.read < len(self.lines) else ""
+    def next(self):
+        """The next line, or an empty one behind the last."""
         self.read += 1
-        if not is_wanted(line):
-            raise ValueError(f"line {self.read} is\n{line}\nand not\n{wanted}")
-        return line
+        return self.lines[self.read - 1] if self.read <= len(self.lines) else ""
 
     def expect(self, lines):
         for wanted in lines:
-            self.next(lambda line: line == wanted, wanted)
-
-    def expect_leg(self, words, figures):
-        """A leg's line of these words and figures: the steps, the hard limits that are broken, and the least total."""
-        wanted = re.compile(re.escape(words) + figures)
-        line = self.next(wanted.fullmatch, words + figures)
-        steps, hard, best = wanted.fullmatch(line).group("steps", "hard", "best")
-        return int(steps), hard, best
+            line = self.next()
+            if line != wanted:
+                raise ValueError(f"line {self.read} is\n{line}\nand not\n{wanted}")
 
     def expect_schedule(self, total):
         """Some schedule with this total."""
-        while self.next(bool, "a schedule") != f"best {total}":
-            pass
-        self.expect(["-" * 10])
+        while (line := self.next()) != f"best {total}":
+            if not line:
+                raise ValueError(f"no schedule ends with 'best {total}'")
+        self.expect([improvements.END_OF_SOLUTION])
 
 
 def distances(unit, heat):
@@ -135,20 +128,28 @@ def distances(unit, heat):
     return f"{whole}.{part:03}"
 
 
-def figures_of(unit, leg, steps, rest=FIGURES):
-    """A leg's line from its last temperature on. One that heats has taken this many steps, or any."""
-    if not waves.heats(leg):
-        return rf"{distances(unit, leg[2])} steps (?P<steps>{leg[3]}) {rest}"
-    return rf"{distances(unit, waves.hottest(leg, steps)) if steps else '[0-9.]+'} steps (?P<steps>{steps or '[0-9]+'}) {rest}"
+def asked(number, entrant, unit, leg, steps):
+    """The figures of a leg that the policy asks for. One that heats takes any number of steps, and has come as far as these do."""
+    moves, hot, cold, share = leg
+    if waves.heats(leg):
+        cold, share = waves.hottest(leg, steps), steps
+    heats = {"from": distances(unit, hot), "to": distances(unit, cold)}
+    return {"leg": number, "chain": entrant.number, "moves": [*waves.KINDS[moves]], **heats, "steps": share}
 
 
 def again(chain, unit, leg, seed, stream, weights):
-    """What the leg comes to."""
+    """The figures that the leg comes to by its steps."""
     steps, made = chain.anneal(unit, leg, seed, stream, weights)
     if model.cost(annealing.games_of(chain.rows), chain.counts.league) != (chain.travel, chain.hard(), chain.rules[1]):
         raise ValueError("parts/annealing.py and parts/model.py have other costs")
-    best = chain.best[0] if chain.best else "none"
-    return figures_of(unit, leg, steps, rf"accepted {made} hard (?P<hard>{chain.hard()}) best (?P<best>{best})")
+    return {"steps": steps, "accepted": made, "hard": chain.hard(), "best": chain.best[0] if chain.best else None}
+
+
+def expect_leg(told, wanted):
+    """Holds the figures of a leg to these."""
+    said = {name: str(told[name]) if name in ("from", "to") else told[name] for name in wanted}
+    if said != wanted:
+        raise ValueError(f"leg {wanted['leg']} is\n{said}\nand not\n{wanted}")
 
 
 def sheet(chain):
@@ -167,39 +168,41 @@ def often_broken(bests, league):
     return [f"{name} broken in {counts[name]} of {len(bests)}" for name in sorted(counts, key=place)]
 
 
-def agree(league, lines, seed):
+def agree(league, legs, lines, seed):
     """How many legs were taken again, and of how many. A difference is an error."""
-    text, counts, taken = Text(lines), annealing.Counts(league), 0
-    unit, lead, least = annealing.unit_of(counts), Entrant(0, annealing.Chain(counts)), None
-    lead.tell(0, lead.chain.hard(), lead.chain.best[0] if lead.chain.best else "none")
-    bests = {}
+    text, counts, taken, told = Text(lines), annealing.Counts(league), 0, iter(legs)
+    unit, lead, least, bests = annealing.unit_of(counts), None, None, {}
     for number, (entrant, leg, stream, weights) in enumerate(in_line(counts), 1):
-        moves, hot, _, steps = leg
-        words = f"leg {number} chain {entrant.number} moves {','.join(waves.KINDS[moves])} from {distances(unit, hot)} to "
-        figures = figures_of(unit, leg, None)
-        if steps > LIMIT:
+        came_to = next(told, None)
+        if came_to is None:
+            raise ValueError(f"there is no leg {number}")
+        wanted = asked(number, entrant, unit, leg, came_to["steps"])
+        if leg[3] > LIMIT:
             entrant.chain = None
         if entrant.chain:
-            figures = again(entrant.chain, unit, leg, seed, stream, weights)
+            wanted |= again(entrant.chain, unit, leg, seed, stream, weights)
             taken += 1
-        entrant.tell(*text.expect_leg(words, figures))
+        expect_leg(came_to, wanted)
+        entrant.tell(came_to["steps"], came_to["hard"], came_to["best"])
         if entrant.number not in bests or entrant.standing < bests[entrant.number][0]:
             bests[entrant.number] = entrant.standing, entrant.chain and annealing.games_of(entrant.chain.rows)
         best = entrant.best
-        if best != "none" and (least is None or int(best) < least):
-            least = int(best)
+        if best is not None and (least is None or best < least):
+            least = best
             if entrant.chain:
-                text.expect([*sheet(entrant.at_best().chain), f"best {best}", "-" * 10])
+                text.expect([*sheet(entrant.at_best().chain), f"best {best}", improvements.END_OF_SOLUTION])
             else:
                 text.expect_schedule(best)
-        if entrant.standing < lead.standing:
+        if lead is None or entrant.standing < lead.standing:
             lead = entrant.at_best()
+    if next(told, None):
+        raise ValueError(f"there are more legs than {number}")
     if least is None:
         games = [games for _, games in bests.values()]
         if None not in games:
             text.expect(often_broken(games, league))
         else:
-            text.read += sum(" broken in " in line for line in lines)
+            text.read += sum(bool(improvements.OFTEN.fullmatch(line)) for line in lines)
     if lead.chain:
         entries = [*lead.chain.entries()]
         end = [f"best {lead.chain.best[0]} at {len(entries)}"] if lead.chain.best else [broken(lead.chain), "best none"]
@@ -207,10 +210,21 @@ def agree(league, lines, seed):
     return taken, number
 
 
-def improvements(runs=20, seed=1, *words):
-    """The name of a league, the seed, the league and the lines of each improvement."""
+def improved(program, text, seed):
+    """The log and the lines of an improvement."""
+    with tempfile.TemporaryDirectory() as folder:
+        log = pathlib.Path(folder, "log")
+        words = ("--workers", 1, "--effort", 1, "--seed", seed, "--history", "--log", log)
+        lines = programs.run(program, "improve", *words, given=text, lawful=(0, 3))
+        return log.read_text(encoding="utf-8"), lines
+
+
+def cases(runs=20, seed=1, *words):
+    """The name of a league, the seed, the league, and the log and the lines of each improvement."""
     if runs == "text":
-        yield seed, int(words[0]), pathlib.Path(seed).read_text(encoding="utf-8"), sys.stdin.read().splitlines()
+        own, log = words
+        texts_read = (pathlib.Path(name).read_text(encoding="utf-8") for name in (seed, log))
+        yield seed, int(own), *texts_read, sys.stdin.read().splitlines()
         return
     program = programs.program(words)
     for number in range(int(runs)):
@@ -219,14 +233,13 @@ def improvements(runs=20, seed=1, *words):
             text = json.dumps(leagues.any_league(random.Random(own), [4, 6, 8], 3))
         else:
             text = leagues.text(*name[:2], extras=name[2:])
-        lines = programs.run(program, "improve", "--workers", 1, "--effort", 1, "--seed", own, given=text, lawful=(0, 3))
-        yield " ".join(map(str, name)), own, text, lines
+        yield " ".join(map(str, name)), own, text, *improved(program, text, own)
 
 
 def main(*words):
     count = 0
-    for count, (name, seed, text, lines) in enumerate(improvements(*words), 1):
+    for count, (name, seed, text, log, lines) in enumerate(cases(*words), 1):
         with case(f"{name}, seed {seed}"):
-            taken, legs = agree(model.read(text), lines, seed)
+            taken, legs = agree(model.read(text), improvements.read_log(log), lines, seed)
         print(f"{name}, seed {seed}: {taken} of {legs} legs taken again", flush=True)
     print(f"{count} improvements agree")
