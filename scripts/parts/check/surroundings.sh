@@ -415,12 +415,12 @@ if command -v rt >/dev/null; then
     done
     # the first command of README
     first=(improve leagues/circular-6.json --effort 0.1)
-    echo 83 >"$built/last-seconds"
+    echo 7 >"$built/last-seconds"
     run './ttp unproved' "$made/linked" "${first[@]}" </dev/null
     judge cmp -s <("$program" "${first[@]}" </dev/null) "$made/output"
     judge test "$status $(wc -l <"$made/error")" = '0 1'
-    judge grep -q 'the last one here took 83 seconds' "$made/error"
-    judge test "$(<"$built/last-seconds")" != 83
+    judge grep -q 'the last one here took 7 seconds' "$made/error"
+    judge test "$(<"$built/last-seconds")" != 7
 else
     echo 'check surroundings: there is no Rattle kit here (its command rt), so the program is not run unproved'
 fi
