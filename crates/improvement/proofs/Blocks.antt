@@ -14,7 +14,8 @@ use Rattle.annealing.specs.Legs.{total_in}
 use Rattle.improvement.specs.Broken.{broken_text}
 use Rattle.improvement.specs.Laws.{BeginsWith, EndsWith, last_line, newest_total}
 use Rattle.improvement.specs.Legs.{LegRun, lead_of, least_reported}
-use Rattle.improvement.specs.LegText.{blocks, ending, improve_text, legs_text, solution_lines, solution_text, text_of}
+use Rattle.improvement.specs.LegText.{blocks, ending, improve_text, legs_text, solution_lines}
+use Rattle.improvement.specs.within.LegText.{solution_text, text_of}
 use Rattle.improvement.specs.Solutions.{Solution, below, best_solution, solutions_of}
 use Rattle.improvement.proofs.Leads.{least_leads}
 use Rattle.improvement.proofs.Solutions.{IsWhole, lead_whole, newest_is}

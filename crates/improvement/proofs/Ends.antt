@@ -25,7 +25,8 @@ use Rattle.improvement.specs.Legs.{AreLegs, IsWorkers, LegRun, lead_of, room_of}
 use Rattle.improvement.specs.LegText.{improve_text, legs_text}
 use Rattle.improvement.specs.Outcome.{Improves}
 use Rattle.improvement.specs.within.Settings.{MayRefuse}
-use Rattle.improvement.specs.within.UnderWay.{EndsBy, HasRunAll, HasStopped, HasWritten, Sends, end_text}
+use Rattle.improvement.specs.within.UnderWay.{EndsBy, HasStopped, HasWritten, Sends, end_text}
+use Rattle.improvement.proofs.RunAll.{HasRunAll}
 use Rattle.improvement.proofs.Bests.{chains_in}
 use Rattle.improvement.proofs.Leads.{lead_legal}
 use Rattle.improvement.proofs.Rooms.{IsLegal-fits}

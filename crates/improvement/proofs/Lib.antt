@@ -4,6 +4,7 @@ pub mod Solutions
 pub mod Blocks
 pub mod FreeRounds
 pub mod Lines
+pub mod RunAll
 pub mod UnderWay
 pub mod Ends
 pub mod Rooms

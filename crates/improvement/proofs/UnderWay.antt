@@ -28,10 +28,12 @@ use Rattle.improvement.specs.within.Fields.{StageData}
 use Rattle.improvement.specs.Solutions.{solutions_of}
 use Rattle.improvement.specs.Legs.{AreLegs, IsLegAfter, LegRun, lead_of, least_in, least_reported, lesser, steps_in, steps_of}
 use Rattle.improvement.specs.within.Legs.{lead_after}
-use Rattle.improvement.specs.LegText.{blocks, ending, improve_text, legs_text, solution_text}
+use Rattle.improvement.specs.LegText.{blocks, ending, improve_text, legs_text}
+use Rattle.improvement.specs.within.LegText.{solution_text}
 use Rattle.improvement.specs.within.Lines.{CanEnd, IsAtBeginning, IsEntrant, IsLine, IsRunning, IsStage, IsWaiting, MayBegin, anew, left_in}
 use Rattle.improvement.specs.within.Lines.{running_steps, assigned_steps}
-use Rattle.improvement.specs.within.UnderWay.{EndsBy, HasReported, HasRunAll, HasSent, HasStopped, HasTold, IsUnderWay, Sends, run_of}
+use Rattle.improvement.specs.within.UnderWay.{EndsBy, HasReported, HasSent, HasStopped, HasTold, IsUnderWay, Sends, run_of}
+use Rattle.improvement.proofs.RunAll.{HasRunAll}
 use Rattle.improvement.proofs.Blocks.{legs_text_more}
 use Rattle.improvement.proofs.Lines.{state_weaker}
 

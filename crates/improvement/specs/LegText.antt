@@ -1,26 +1,17 @@
 -- What an improvement writes.
-use Rattle.std.specs.Prelude.{ℕ, Bool, if◌then◌else◌, List, [], ◌∷◌, ◌++◌, Option, Some, None, codes, decimal}
+use Rattle.std.specs.Prelude.{ℕ, Bool, if◌then◌else◌, List, [], ◌∷◌, ◌++◌, codes, decimal}
 use Rattle.std.specs.List.{concat}
 use Rattle.league.specs.League.{LeagueData}
-use Rattle.fixture_board.specs.declared.change.Entry.{Entry}
 use Rattle.board_texts.specs.SearchText.{improved_text}
 use Rattle.text_lines.specs.Sheet.{sheet_of}
 use Rattle.improvement.specs.Broken.{broken_text}
 use Rattle.improvement.specs.Legs.{LegRun, lead_of}
-use Rattle.improvement.specs.Solutions.{Solution, below, best_solution, solutions_of}
+use Rattle.improvement.specs.Solutions.{Solution, solutions_of}
 
 -- a block: the sheet of a solution, its total and a line that ends it
 abbrev pub solution_lines : LeagueData → Solution → List ℕ
 solution_lines league s =
     sheet_of s.games league ++ concat (codes "best " ∷ decimal s.total ∷ codes "\n----------\n" ∷ [])
-
-abbrev pub text_of : LeagueData → Option Solution → List ℕ
-text_of league None = []
-text_of league (Some s) = solution_lines league s
-
--- what is written when a leg has ended: the best schedule of its history, if the total of that is below the least before
-abbrev pub solution_text : LeagueData → Option ℕ → List Entry → List ℕ
-solution_text league least h = text_of league (below least (best_solution league h))
 
 -- the blocks of these solutions, of which the newest stands first here and last in the text
 unfoldable pub blocks : LeagueData → List Solution → List ℕ

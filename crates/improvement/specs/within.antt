@@ -1,4 +1,5 @@
 pub mod Legs
+pub mod LegText
 pub mod Rounds
 pub mod Chains
 pub mod Broken

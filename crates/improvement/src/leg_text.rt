@@ -2,7 +2,8 @@
 
 ghost use Rattle.std.specs.Prelude.{◌≡◌, [], OnOk};
 ghost use Rattle.byte_streams.specs.Writing.{Writes, waiting_in};
-ghost use Rattle.improvement.specs.LegText.{solution_lines, solution_text};
+ghost use Rattle.improvement.specs.LegText.{solution_lines};
+ghost use Rattle.improvement.specs.within.LegText.{solution_text};
 ghost use Rattle.improvement.specs.Solutions.{best_with, is_below};
 
 use board_texts::write_best_sheet;

@@ -5,10 +5,7 @@ use Rattle.std.specs.List.{position_or_len}
 use Rattle.clap.specs.Words.{Row, Text, first_of}
 use Rattle.text_lines.specs.Number.{number_of}
 
--- the most that is drawn, in millions and in their thousandths
-abbrev pub max_millions : ℕ
-max_millions = 1000000
-
+-- the most that is drawn
 abbrev pub max_thousandths : ℕ
 max_thousandths = 1000000000
 

@@ -66,12 +66,6 @@ module _ {W : Type 0} (held : W → Option (List ℕ)) (tally : W → Tally) (st
     pub running : All (IsRunning start legs) out_of_line
     pub line_is : IsLine start legs line
 
-  -- all legs were reported
-  pub record HasRunAll (reported : Reported) : Type 0 where
-    pub legs : List LegRun
-    pub told : HasTold legs reported
-    pub all : AreAll plan legs
-
   -- the whole text was written and sent, and this is the best version of the history that leads
   pub record HasWritten (best : Option Best) : Type 0 where
     pub legs : List LegRun

@@ -11,7 +11,7 @@ use Rattle.clap.specs.declared.error.kind.ErrorKind.TheVariants.{UnknownArgument
 use Rattle.options.specs.Beginnings.{max_near}
 use Rattle.options.specs.CommandLine.{OptionForm, number_option, plan_options, room_option, seconds_option, seed_option, terms_options}
 use Rattle.options.specs.CommandLine.{workers_option}
-use Rattle.options.specs.Effort.{max_millions, thousandths_of_text}
+use Rattle.options.specs.Effort.{thousandths_of_text}
 use Rattle.options.specs.within.CommandLine.{form_of}
 use Rattle.options.specs.declared.number_options.NumberOption.{NumberOption}
 use Rattle.options.specs.declared.number_options.NumberOption.TheVariants.{Whole, Effort}
@@ -131,6 +131,10 @@ cause_of kind command words = option_and_then (only_cause kind) (wrong_from comm
 abbrev pub value_name_of : NumberOption → Text
 value_name_of (Whole arg) = arg.value_name.now
 value_name_of Effort = codes "E"
+
+-- the most that an improvement draws, in millions
+abbrev pub max_millions : ℕ
+max_millions = 1000000
 
 -- what is wanted, and what is said of a word that isn't that
 abbrev pub wanted_words : NumberOption → Text
