@@ -305,14 +305,14 @@ fn new_board(alloc: Global, teams: u8, count: u32) -> Option<Board>
     Board::new(alloc, league, count.min(MAX_ROOM)).ok()
 }
 
-/// The result, and how long each of so many took since the start.
+/// The value, and how long each of so many took since the start.
 fn timed<R: Runtime, T: Copy>(
     rt: &R,
     start: io::Result<Instant>,
     count: u32,
-    result: T,
+    value: T,
 ) -> io::Result<(T, u128)> {
-    Ok((result, nanoseconds_each(rt, start, count)?))
+    Ok((value, nanoseconds_each(rt, start, count)?))
 }
 
 /// How long each of so many took since the start.
