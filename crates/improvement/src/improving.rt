@@ -38,7 +38,7 @@ use std::thread::{Scope, Threads};
 
 /// Runs the legs of the policy on chains of the league, and writes each better schedule as soon as it is known. The legs pass the
 /// run context's gate, and report to it how far they are. Each leg that has ended is reported to the watcher. Answers with the best version of
-/// the history that was written in the end.
+/// the history that leads in the end.
 pub fn improve<T: Threads + Wait + Sync, G: Gate + Sync, W: Sink, V: Watcher<W> + Drop>(
     run_context: RunContext<'_, T, G>,
     league: League,

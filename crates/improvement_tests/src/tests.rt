@@ -5,7 +5,7 @@ mod legs;
 mod series;
 mod workers;
 
-ghost use Rattle.std.specs.Prelude.{◌≤◌};
+ghost use Rattle.std.specs.Prelude.{◌≡◌, ◌≤◌};
 
 use byte_streams::{MemorySink, RehearsedSink, Sink, Step};
 use draws::{NoGate, RunContext};
@@ -102,7 +102,9 @@ struct Counter {
 }
 
 impl<W: Sink> Watcher<W> for Counter {
-    fn leg_ended(&mut self, leg: LegEnded, _better: Option<&Board>, _written: Written<'_, '_, W>) {
+    fn leg_ended(&mut self, leg: LegEnded, _better: Option<&Board>, _written: Written<'_, '_, W>)
+        ensures { self.new.wanted ≡ self.old.wanted }
+    {
         if self.steps == self.behind && self.kept.is_none() {
             self.kept = Some(leg);
         }
