@@ -4,7 +4,6 @@ mod boards;
 mod chains;
 mod checks;
 mod leagues;
-mod legs;
 mod reporting;
 mod rooms;
 mod steps;

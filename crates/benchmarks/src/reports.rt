@@ -1,18 +1,19 @@
 //! Measurements as lines: what they came to on standard output, and how fast it was on standard error.
 
-ghost use Rattle.std.specs.Prelude.{◌≡◌, ◌*◌, ◌^◌, ◌<◌, [], IfOk};
+ghost use Rattle.std.specs.Prelude.{◌≡◌, ◌*◌, ◌^◌, ◌<◌, [], IfOk, IfSome};
+ghost use Rattle.league.specs.League.{teams};
 
 use crate::kind::Kind;
 use crate::measure::{Count, measure};
 use crate::plan::Plan;
 use crate::steps::{own_steps, seat_steps};
 use crate::tries::{Tried, Tries, try_moves};
-use crate::turns::{Seated, Turn, Work, take_turns};
+use crate::turns::{Turn, Work, take_turns};
 use fixture_board::{Board, MAX_ROOM};
 use fixtures::Schedule;
 use league::{League, circular};
 use search::{Report, SeatDoor};
-use shared_board::Shared;
+use shared_board::{Seat, Shared};
 use std::alloc::Global;
 use std::io;
 use std::rt::Runtime;
@@ -49,12 +50,10 @@ fn time_moves<R: Runtime + AllocGlobal>(
     kind: Kind,
     count: u32,
 ) -> io::Result<(Count, u128)> {
-    let league = league_of(rt.alloc(), teams)?;
-    let mut schedule = league.start(rt.alloc())?;
-    let start = Instant::now(rt)?;
-    let counted = measure(&mut schedule, kind, count);
-    let each = nanoseconds_each(rt, start, counted.made)?;
-    Ok((counted, each))
+    let Setup { mut copy, .. } = setup_of(rt.alloc(), teams, 0)?;
+    let start = Instant::now(rt);
+    let counted = measure(&mut copy, kind, count);
+    timed(rt, start, counted.made, counted)
 }
 
 /// Tries of drawn moves, and of the moves of each kind, with each slack.
@@ -94,12 +93,14 @@ fn time_tries<R: Runtime + AllocGlobal>(
     tried: Tried,
     plan: Plan,
 ) -> io::Result<(Tries, u128)> {
-    let league = league_of(rt.alloc(), teams)?;
-    let mut schedule = league.start(rt.alloc())?;
-    let start = Instant::now(rt)?;
-    let tries = try_moves(&mut schedule, &league, tried, plan);
-    let each = nanoseconds_each(rt, start, plan.count)?;
-    Ok((tries, each))
+    let Setup {
+        league,
+        mut copy,
+        ..
+    } = setup_of(rt.alloc(), teams, 0)?;
+    let start = Instant::now(rt);
+    let tries = try_moves(&mut copy, &league, tried, plan);
+    timed(rt, start, plan.count, tries)
 }
 
 /// Steps of a worker that has the board for itself, and of one that has the only seat of a shared board, with each slack.
@@ -137,12 +138,14 @@ fn time_own_steps<R: Runtime + AllocGlobal + Wait>(
     teams: u8,
     plan: Plan,
 ) -> io::Result<(Report, u128)> {
-    let (league, mut copy) = league_and_start(rt.alloc(), teams)?;
-    let board = board_of(rt.alloc(), teams, plan.count)?;
-    let start = Instant::now(rt)?;
+    let Setup {
+        league,
+        mut copy,
+        board,
+    } = setup_of(rt.alloc(), teams, plan.count)?;
+    let start = Instant::now(rt);
     let report = own_steps(rt, &league, board, &mut copy, plan);
-    let each = nanoseconds_each(rt, start, plan.count)?;
-    Ok((report, each))
+    timed(rt, start, plan.count, report)
 }
 
 /// The report of a worker with the only seat, and the nanoseconds of a step.
@@ -151,16 +154,32 @@ fn time_seat_steps<R: Runtime + AllocGlobal + Wait>(
     teams: u8,
     plan: Plan,
 ) -> io::Result<(Report, u128)> {
-    let (league, mut copy) = league_and_start(rt.alloc(), teams)?;
-    let (shared, seat) = Shared::new(rt.alloc(), board_of(rt.alloc(), teams, plan.count)?)?;
+    let Setup {
+        league,
+        mut copy,
+        board,
+    } = setup_of(rt.alloc(), teams, plan.count)?;
+    time_seat(rt, &league, board, &mut copy, plan)
+}
+
+/// As a worker with the only seat of the board.
+fn time_seat<R: Runtime + AllocGlobal + Wait>(
+    rt: &R,
+    league: &League,
+    board: Board,
+    copy: &mut Schedule,
+    plan: Plan,
+) -> io::Result<(Report, u128)>
+    requires { board.history ≡ [] }
+{
+    let (shared, seat) = Shared::new(rt.alloc(), board)?;
     let door = SeatDoor {
         shared: &shared,
         seat,
     };
-    let start = Instant::now(rt)?;
-    let report = seat_steps(rt, &league, door, &mut copy, plan);
-    let each = nanoseconds_each(rt, start, plan.count)?;
-    Ok((report, each))
+    let start = Instant::now(rt);
+    let report = seat_steps(rt, league, door, copy, plan);
+    timed(rt, start, plan.count, report)
 }
 
 /// Turns of 1 to 16 threads on one shared board.
@@ -196,7 +215,7 @@ fn report_threads<R: Runtime + AllocGlobal + Threads + Wait + Sync>(
     eprintln!(rt; "{teams} teams {turn}, {threads} threads: {each} ns each")
 }
 
-/// The nanoseconds of a turn of the threads. Their changes have to be those of the board.
+/// The nanoseconds of a turn of the threads.
 fn time_turns<R: Runtime + AllocGlobal + Threads + Wait + Sync>(
     rt: &R,
     teams: u8,
@@ -206,45 +225,101 @@ fn time_turns<R: Runtime + AllocGlobal + Threads + Wait + Sync>(
     requires turns { work.turns * work.threads < 2 ^ 32 }
 {
     let turns = work.turns * work.threads;
-    let board = board_of(rt.alloc(), teams, turns)?;
-    let copy = board.schedule().duplicate(rt.alloc())?;
+    let Setup { copy, board, .. } = setup_of(rt.alloc(), teams, turns)?;
+    let start = Instant::now(rt);
+    turns_taken(rt, board, &copy, work)?;
+    nanoseconds_each(rt, start, turns)
+}
+
+/// Has the threads take their turns on the board. Their changes have to be those of the board.
+fn turns_taken<R: Runtime + AllocGlobal + Threads + Wait + Sync>(
+    rt: &R,
+    board: Board,
+    copy: &Schedule,
+    work: Work,
+) -> io::Result<()>
+    requires { board.history ≡ [] }
+{
     let (shared, seat) = Shared::new(rt.alloc(), board)?;
-    let start = Instant::now(rt)?;
-    let Some(seat) = take_turns(rt, rt.alloc(), &shared, Seated { seat, copy }, work) else {
+    let Some(seat) = take_turns(rt, rt.alloc(), &shared, seat, copy, work) else {
         return Err(io::Error::from(io::ErrorKind::OutOfMemory));
     };
-    let each = nanoseconds_each(rt, start, turns)?;
+    close(rt, shared, seat, work.threads)
+}
+
+/// Ends the sharing. The seat has to account for each entry of the board, and each thread's number.
+fn close<R: Wait>(rt: &R, shared: Shared, seat: Seat, threads: u32) -> io::Result<()>
+    requires { seat.table ≡ shared }
+{
     let (held, accepted) = (seat.held(), seat.accepted());
     let closed = shared.close(rt, seat);
-    if !closed.whole || held != work.threads || accepted != closed.board.version() {
-        return Err(io::Error::from(io::ErrorKind::InvalidData));
+    if closed.whole && held == threads && accepted == closed.board.version() {
+        Ok(())
+    } else {
+        Err(io::Error::from(io::ErrorKind::InvalidData))
     }
-    Ok(each)
 }
 
-fn league_of(alloc: Global, teams: u8) -> io::Result<League> {
-    circular(alloc, teams).map_err(|_| io::Error::from(io::ErrorKind::OutOfMemory))
+/// A league in a circle, its start, and a board of it.
+#[derive(Drop)]
+struct Setup {
+    league: League,
+    copy: Schedule,
+    board: Board,
 }
 
-/// The league and its start.
-fn league_and_start(alloc: Global, teams: u8) -> io::Result<(League, Schedule)> {
-    let league = league_of(alloc, teams)?;
-    let start = league.start(alloc)?;
-    Ok((league, start))
+/// Setup of so many teams. The board has room for so many entries, or for as many as a board may have.
+fn setup_of(alloc: Global, teams: u8, count: u32) -> io::Result<Setup>
+    ensures board { IfOk result (λ s. s.board.history ≡ []) }
+    ensures size { IfOk result (λ s. teams s.league ≡ s.copy.teams) }
+{
+    let board = board_of(alloc, teams, count)?;
+    let (league, copy) = league_and_copy(alloc, &board)?;
+    Ok(Setup {
+        league,
+        copy,
+        board,
+    })
 }
 
-/// A board with room for so many entries, or for as many as a board may have.
+/// A copy of the board's league, and one of its schedule.
+fn league_and_copy(alloc: Global, board: &Board) -> io::Result<(League, Schedule)>
+    ensures { IfOk result (λ r. teams r.0 ≡ r.1.teams) }
+{
+    let copy = board.schedule().duplicate(alloc)?;
+    let league = board.league().duplicate(alloc)?;
+    Ok((league, copy))
+}
+
 fn board_of(alloc: Global, teams: u8, count: u32) -> io::Result<Board>
     ensures { IfOk result (λ b. b.history ≡ []) }
 {
-    let league = league_of(alloc, teams)?;
-    match Board::new(alloc, league, count.min(MAX_ROOM)) {
-        Ok(board) => Ok(board),
-        Err(_) => Err(io::Error::from(io::ErrorKind::OutOfMemory)),
-    }
+    let no_memory = io::Error::from(io::ErrorKind::OutOfMemory);
+    new_board(alloc, teams, count).ok_or(no_memory)
 }
 
-/// How long each of so many took.
-fn nanoseconds_each<R: Runtime>(rt: &R, start: Instant, count: u32) -> io::Result<u128> {
-    Ok(start.elapsed(rt)?.as_nanos() / u128::from(count.max(1)))
+fn new_board(alloc: Global, teams: u8, count: u32) -> Option<Board>
+    ensures { IfSome result (λ b. b.history ≡ []) }
+{
+    let league = circular(alloc, teams).ok()?;
+    Board::new(alloc, league, count.min(MAX_ROOM)).ok()
+}
+
+/// The result, and how long each of so many took since the start.
+fn timed<R: Runtime, T: Copy>(
+    rt: &R,
+    start: io::Result<Instant>,
+    count: u32,
+    result: T,
+) -> io::Result<(T, u128)> {
+    Ok((result, nanoseconds_each(rt, start, count)?))
+}
+
+/// How long each of so many took since the start.
+fn nanoseconds_each<R: Runtime>(
+    rt: &R,
+    start: io::Result<Instant>,
+    count: u32,
+) -> io::Result<u128> {
+    Ok(start?.elapsed(rt)?.as_nanos() / u128::from(count.max(1)))
 }

@@ -43,35 +43,23 @@ pub struct Work {
     pub turns: u32,
 }
 
-/// A seat, and the copy of the schedule that its looks write.
-#[derive(Drop)]
-pub struct Seated {
-    pub seat: Seat,
-    pub copy: Schedule,
-}
-
 /// Has the threads take their turns, each with a copy of the schedule. The seat that took in all others, if each thread had
 /// its seat and its copy.
 pub fn take_turns<R: Threads + Wait + Sync>(
     rt: &R,
     alloc: Global,
     shared: &Shared,
-    seated: Seated,
+    mut seat: Seat,
+    copy: &Schedule,
     work: Work,
 ) -> Option<Seat>
-    requires { seated.seat.table ≡ shared.now }
+    requires { seat.table ≡ shared.now }
     ensures { IfSome result (λ s. s.table ≡ shared.now) }
 {
-    let Seated { mut seat, mut copy } = seated;
     if work.threads < 2 {
-        take(rt, shared, &mut seat, &mut copy, work);
-        return Some(seat);
+        return take_alone(rt, alloc, shared, seat, copy, work);
     }
-    let second = Seated {
-        seat: shared.split(rt, &mut seat).ok()?,
-        copy: copy.duplicate(alloc).ok()?,
-    };
-    let first = Seated { seat, copy };
+    let other = shared.split(rt, &mut seat).ok()?;
     let half = Work {
         threads: work.threads / 2,
         ..work
@@ -83,17 +71,41 @@ pub fn take_turns<R: Threads + Wait + Sync>(
     let (first, second) = join(
         rt,
         move || -> Option<Seat>
-            requires { IsSync R.row × (first.seat.table ≡ shared.now) }
+            requires { IsSync R.row × (seat.table ≡ shared.now) }
             ensures { IfSome result (λ s. s.table ≡ shared.entry.now) }
-        { take_turns(rt, alloc, shared, first, half) },
+        { take_turns(rt, alloc, shared, seat, copy, half) },
         move || -> Option<Seat>
-            requires { IsSync R.row × (second.seat.table ≡ shared.now) }
+            requires { IsSync R.row × (other.table ≡ shared.now) }
             ensures { IfSome result (λ s. s.table ≡ shared.entry.now) }
-        { take_turns(rt, alloc, shared, second, rest) },
+        { take_turns(rt, alloc, shared, other, copy, rest) },
     );
-    let mut first = first?;
-    shared.absorb(&mut first, second?);
-    Some(first)
+    Some(joined(shared, first?, second?))
+}
+
+/// The first seat, which took the other in.
+fn joined(shared: &Shared, mut first: Seat, other: Seat) -> Seat
+    requires { (first.table ≡ shared.now) × (other.table ≡ shared.now) }
+    ensures { result.table ≡ shared.now }
+{
+    shared.absorb(&mut first, other);
+    first
+}
+
+/// One thread's turns with a copy of its own. Its seat, if it has the copy.
+fn take_alone<R: Wait>(
+    rt: &R,
+    alloc: Global,
+    shared: &Shared,
+    mut seat: Seat,
+    copy: &Schedule,
+    work: Work,
+) -> Option<Seat>
+    requires { seat.table ≡ shared.now }
+    ensures { IfSome result (λ s. s.table ≡ shared.now) }
+{
+    let mut copy = copy.duplicate(alloc).ok()?;
+    take(rt, shared, &mut seat, &mut copy, work);
+    Some(seat)
 }
 
 /// One thread's turns.

@@ -1,6 +1,7 @@
 //! Bounds on what the teams of a league travel, and on what all of them do.
 
-ghost use Rattle.std.specs.Prelude.{◌≡◌, ◌≤◌, ◌^◌, ℕ, IfOk, slice_index};
+ghost use Rattle.std.specs.Prelude.{◌≡◌, ◌≤◌, ◌<◌, ◌^◌, ℕ, IfOk, length, slice_index};
+ghost use Rattle.sets.specs.Sums.{sum_below};
 ghost use Rattle.bounds.specs.Bounds.{AreTourBounds, IsBound};
 
 use crate::tables::Tables;
@@ -8,23 +9,46 @@ use crate::team_bound::team_bound;
 use league::League;
 use std::alloc::{AllocError, Global};
 
-/// A bound on what each schedule of the league without runs travels. No contract says how near it is.
-pub fn bound(alloc: Global, league: &League) -> Result<u64, AllocError>
-    ensures { IfOk result (IsBound league.now) }
-{
-    let bounds = tour_bounds(alloc, league)?;
-    let mut total = 0_u64;
-    for bound in &bounds {
-        // far below 64 bits
-        total = total.saturating_add(*bound);
+/// Bounds on what the teams of a league travel, each alone and all together.
+#[derive(Drop)]
+pub struct LeagueBounds {
+    /// For each team one on its tour.
+    pub tours: Vec<u64>,
+    /// One on the travel of all: the sum of theirs.
+    pub travel: u64,
+}
+
+impl LeagueBounds {
+    /// Bounds on each schedule of the league in which no team has a run. No contract says how near they are.
+    pub fn of(alloc: Global, league: &League) -> Result<LeagueBounds, AllocError>
+        ensures tours { IfOk result (λ bounds. AreTourBounds league.now bounds.tours.items) }
+        ensures travel { IfOk result (λ bounds. IsBound league.now bounds.travel) }
+        ensures sum { IfOk result (λ bounds. bounds.travel
+            ≡ sum_below (length bounds.tours.items) (slice_index bounds.tours.items)) }
+    {
+        let tours = tour_bounds(alloc, league)?;
+        let travel = sum_of(&tours);
+        Ok(LeagueBounds { tours, travel })
     }
-    Ok(total)
+}
+
+fn sum_of(bounds: &[u64]) -> u64
+    requires few { length bounds.now < 256 }
+    requires small { (team : ℕ) → slice_index bounds.now team ≤ 2 ^ 48 }
+    ensures { result ≡ sum_below (length bounds.now) (slice_index bounds.now) }
+{
+    let mut sum = 0;
+    for bound in bounds {
+        sum += *bound;
+    }
+    sum
 }
 
 /// For each team a bound on its tours without runs.
-pub fn tour_bounds(alloc: Global, league: &League) -> Result<Vec<u64>, AllocError>
+fn tour_bounds(alloc: Global, league: &League) -> Result<Vec<u64>, AllocError>
     ensures each { IfOk result (λ bounds. AreTourBounds league.now bounds.items) }
     ensures limit { IfOk result (λ bounds. (team : ℕ) → slice_index bounds.items team ≤ 2 ^ 48) }
+    ensures few { IfOk result (λ bounds. length bounds.items < 256) }
 {
     let mut tables = Tables::new(alloc)?;
     let teams = league.teams();

@@ -22,4 +22,4 @@ mod travellers;
 mod trips;
 mod walks;
 
-pub use league_bound::{bound, tour_bounds};
+pub use league_bound::LeagueBounds;

@@ -1,7 +1,7 @@
 //! Bounds of leagues whose least tours are known: by hand where each team is as near as each other, and for circles by tables over
 //! all sets of opponents, apart from the crates.
 
-use bounds::{bound, tour_bounds};
+use bounds::LeagueBounds;
 use league::{League, circular, constant};
 use league_json::read_league;
 use std::alloc::Global;
@@ -15,7 +15,7 @@ const CIRCLES: &[(u8, u64)] = &[(4, 16), (6, 60), (8, 128), (10, 220)];
 const CONSTANTS: &[(u8, u64)] = &[(4, 16), (6, 42), (8, 80), (10, 120)];
 
 fn check_bound(rt: &impl Abort, alloc: Global, league: &League, known: u64) -> Result<(), Fail> {
-    assert_eq!(rt; bound(alloc, league)?, known);
+    assert_eq!(rt; LeagueBounds::of(alloc, league)?.travel, known);
     Ok(())
 }
 
@@ -43,8 +43,8 @@ const PAIRS: &[u8] = br#"{"format": 1, "teams": ["A", "B", "C", "D"], "at_most":
 #[test]
 fn each_team_of_two_pairs(rt: HostRuntime) -> Result<(), Fail> {
     let league = read_league(rt.alloc(), PAIRS)?;
-    let bounds = tour_bounds(rt.alloc(), &league)?;
-    assert_eq!(rt; bounds.as_slice(), [23, 23, 23, 23].as_slice());
+    let bounds = LeagueBounds::of(rt.alloc(), &league)?;
+    assert_eq!(rt; bounds.tours.as_slice(), [23, 23, 23, 23].as_slice());
     check_bound(&rt, rt.alloc(), &league, 92)
 }
 
@@ -55,8 +55,8 @@ const ALONE: &[u8] = br#"{"format": 1, "teams": ["A", "B", "C", "D"], "at_most":
 #[test]
 fn trips_of_one_game(rt: HostRuntime) -> Result<(), Fail> {
     let league = read_league(rt.alloc(), ALONE)?;
-    let bounds = tour_bounds(rt.alloc(), &league)?;
-    assert_eq!(rt; bounds.as_slice(), [12, 20, 24, 28].as_slice());
+    let bounds = LeagueBounds::of(rt.alloc(), &league)?;
+    assert_eq!(rt; bounds.tours.as_slice(), [12, 20, 24, 28].as_slice());
     Ok(())
 }
 

@@ -8,7 +8,7 @@ use Rattle.byte_streams.specs.declared.reading.ReadFault.{ReadFault}
 use Rattle.byte_streams.specs.declared.reading.ReadFault.TheVariants as reading
 use Rattle.byte_streams.specs.declared.tally.Tally.{Tally}
 use Rattle.options.specs.declared.job.Job.{Job}
-use Rattle.options.specs.declared.job.Job.TheVariants.{Start, Play, Improve, Find, Report, League as Make}
+use Rattle.options.specs.declared.job.Job.TheVariants.{Start, Play, Improve, Find, Report, League as Make, Bound}
 use Rattle.commands.specs.declared.fault.ProgramFault.{ProgramFault}
 use Rattle.commands.specs.declared.fault.ProgramFault.TheVariants.{Read, TooLong, League, Begin, Row, Distances, NoSheet, Room, Workers, Spawn, Receipts, Write, Memory}
 use Rattle.commands.specs.within.Fault.{of_reading}
@@ -26,6 +26,7 @@ module _ {W : Type 0} (held : W → Option (List ℕ)) (pushes : W → Tally) (b
   not_unread (Find room plan) ends = ends.0
   not_unread (Report format) ends = ends.0
   not_unread (Make choice at_most hard_weight) ends = ends.0
+  not_unread Bound ends = ends.0
 
   not_long : (job : Job) → EndsJobOn held pushes bytes None None title job told before after (Err TooLong) → ⊥
   not_long Start ends = ends.0
@@ -34,6 +35,7 @@ module _ {W : Type 0} (held : W → Option (List ℕ)) (pushes : W → Tally) (b
   not_long (Find room plan) ends = ends.0
   not_long (Report format) ends = ends.0
   not_long (Make choice at_most hard_weight) ends = ends.0
+  not_long Bound ends = ends.0
 
 -- a read has one fault
 not_both : {A : Type 0} (result : Result A ReadFault) → result ≡ Err reading.TooLong → result ≡ Err reading.Read → ⊥

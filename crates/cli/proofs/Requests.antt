@@ -12,7 +12,7 @@ use Rattle.options.specs.CommandLine.{beginning_of_command}
 use Rattle.text_lines.specs.Number.{number_of}
 use Rattle.options.specs.Files.{Files, files_of}
 use Rattle.options.specs.declared.job.Job.{Job}
-use Rattle.options.specs.declared.job.Job.TheVariants.{Start, Play, Improve, Find, Report, League as Make}
+use Rattle.options.specs.declared.job.Job.TheVariants.{Start, Play, Improve, Find, Report, League as Make, Bound}
 use Rattle.options.specs.declared.request.Request.{Request}
 use Rattle.byte_streams.specs.declared.tally.Tally.{Tally}
 use Rattle.commands.specs.declared.fault.ProgramFault.TheVariants.{Memory}
@@ -44,6 +44,7 @@ module _ {R W : Type 0} (left : R → Option (List ℕ)) (pulls : R → Tally) (
   nothing_done title (Find room plan) = record { ending = inl refl; failed_read = λ h. absurd (omega (arith, h)); reads = omega arith }
   nothing_done title (Report format) = record { ending = inl refl; failed_read = λ h. absurd (omega (arith, h)); reads = omega arith }
   nothing_done title (Make choice at_most hard_weight) = record { ending = inl refl; failed_read = λ h. absurd (omega (arith, h)); reads = omega arith }
+  nothing_done title Bound = record { ending = inl refl; failed_read = λ h. absurd (omega (arith, h)); reads = omega arith }
 
   module _ (kinds : Kinds) (named : Option Job) (named_files : Option Files) (named_title : Option (Option Text)) (named_kept : Option Kept)
       (after : W) (status : ℕ) where

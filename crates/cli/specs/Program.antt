@@ -5,7 +5,7 @@ use Rattle.std.specs.Str.Lines.{lines}
 use Rattle.clap.specs.declared.error.kind.ErrorKind.{ErrorKind as Kind}
 use Rattle.clap.specs.declared.error.kind.ErrorKind.TheVariants.{OutOfMemory, DisplayHelp, DisplayVersion}
 use Rattle.options.specs.declared.job.Job.{Job}
-use Rattle.options.specs.declared.job.Job.TheVariants.{Start, Play, Improve, Find, Report, League as Make}
+use Rattle.options.specs.declared.job.Job.TheVariants.{Start, Play, Improve, Find, Report, League as Make, Bound}
 use Rattle.options.specs.Beginnings.{Beginning as Kept}
 use Rattle.options.specs.Files.{Files}
 use Rattle.improvement.specs.declared.plan.ImprovePlan.{ImprovePlan}
@@ -28,6 +28,7 @@ use Rattle.commands.specs.Find.{AnswersFindOn}
 use Rattle.commands.specs.Improve.{EndsImproveOn}
 use Rattle.commands.specs.Report.{AnswersReportOn}
 use Rattle.commands.specs.MadeLeague.{AnswersLeague}
+use Rattle.commands.specs.Bound.{AnswersBound}
 use Rattle.cli.specs.declared.jobs.Ending.{Ending}
 use Rattle.cli.specs.declared.jobs.Ending.TheVariants.{Written, Judged, Searched, Made}
 
@@ -101,6 +102,7 @@ module _ {W : Type 0} (held : W → Option (List ℕ)) (pushes : W → Tally) (i
       (AnswersReportOn format (verdict_in told) (league_part (codes "sheet") input second) (lines_part (codes "sheet") input second) beginning)
   EndsJobOn (Make choice at_most hard_weight) told = EndsOn held pushes
       (AnswersLeague choice (record { title = title; at_most = at_most; hard_weight = hard_weight }) (rounded_in told) input)
+  EndsJobOn Bound told = EndsOn held pushes (AnswersBound input)
 
   -- the command of the job ended with this outcome, which has a verdict or a search's end if the job is to have one
   pub record Performs (job : Job) (before after : W) (outcome : Result Ending ProgramFault) : Type 0 where

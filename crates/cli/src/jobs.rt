@@ -12,8 +12,8 @@ use crate::timed::Timed;
 use byte_streams::WriterSink;
 use commands::{
     Beginning, Extent, Gate, ImprovePlan, MAX_EFFORT, NoGate, ProgramFault, ProgressLine,
-    RunContext, SearchEnd, Settings, Sink, Verdict, Watcher, find_on, improve_on, league_on,
-    play_on, report_on, start_on,
+    RunContext, SearchEnd, Settings, Sink, Verdict, Watcher, bound_on, find_on, improve_on,
+    league_on, play_on, report_on, start_on,
 };
 use options::Job;
 use std::alloc::Global;
@@ -174,6 +174,7 @@ fn perform_at<T: Threads + Wait + Clock + Sync, G: Gate + Sync, W: Sink, V: Watc
             };
             with_rounded(league_on(alloc, input, sink, choice, settings))
         }
+        Job::Bound => without_verdict(bound_on(alloc, input, sink)),
     }
 }
 

@@ -10,4 +10,5 @@ pub mod Find
 pub mod Improve
 pub mod Report
 pub mod MadeLeague
+pub mod Bound
 pub mod within

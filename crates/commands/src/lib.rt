@@ -2,6 +2,7 @@
 #![tactic(auto)]
 
 mod begun;
+mod bound_command;
 mod fault;
 mod hints;
 mod improve_command;
@@ -15,6 +16,7 @@ mod search_text;
 mod start_command;
 mod verdict;
 
+pub use bound_command::{bound, bound_from, bound_on};
 pub use byte_streams::{Sink, Source, Step};
 pub use choices::{CsvForm, Format, SearchPlan, Separator, Symmetry};
 pub use draws::{Gate, NoGate, RunContext};

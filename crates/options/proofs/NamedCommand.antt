@@ -23,7 +23,7 @@ use Rattle.clap.specs.declared.error.kind.ErrorKind.TheVariants.{DisplayHelp, In
 use Rattle.clap.proofs.OnLiterals.{clap_on_literals}
 use Rattle.options.specs.CommandLine.{CommandForm, OptionForm}
 use Rattle.options.specs.within.CommandLine.{HasValues, NamesACommand, NamesOneOf}
-use Rattle.options.specs.CommandLine.{app_of_command, commands, improve_command, league_word, play_command, program}
+use Rattle.options.specs.CommandLine.{app_of_command, bound_command, commands, improve_command, league_word, play_command, program}
 use Rattle.options.specs.CommandLine.{league_command, report_command, search_command, second_word, start_command, start_rules}
 use Rattle.options.proofs.Options.{AreSound, AreSoundRules, IsFree, both_pass, both_sound, help, no_kind, option_rule, options_sound}
 use Rattle.options.proofs.OptionWords.{has_values}
@@ -243,7 +243,13 @@ commands_are_read = (
               named = refl;
               has = has_values league_command.options first_word (with_help league_command.free) league_sound (all_sound league_command.options first_word league_command.free league_sound (record { other = refl; adds = inl refl }, tt) (record { other = refl; adds = inl refl }, (record { other = refl; adds = inl refl }, tt))) (built_command league_command);
             },
-            tt,
+            (
+              record {
+                named = refl;
+                has = has_values [] first_word (with_help []) start_sound (all_sound [] first_word [] start_sound (record { other = refl; adds = inl refl }, tt) tt) (built_command bound_command);
+              },
+              tt,
+            ),
           ),
         ),
       ),
@@ -331,19 +337,19 @@ values_of word options (c ∷ cs) are found (inl here) is = go are.0
 module _ (found : Text × List Row) (named : NamesOneOf commands found) where
   pub play_values : found.0 ≡ codes "play" → HasValues found.1 play_command.options
   play_values = values_of (codes "play") play_command.options commands
-      (inl refl, (inr refl, (inl refl, (inl refl, (inl refl, (inl refl, tt)))))) found named
+      (inl refl, (inr refl, (inl refl, (inl refl, (inl refl, (inl refl, (inl refl, tt))))))) found named
 
   pub improve_values : found.0 ≡ codes "improve" → HasValues found.1 improve_command.options
   improve_values = values_of (codes "improve") improve_command.options commands
-      (inl refl, (inl refl, (inr refl, (inl refl, (inl refl, (inl refl, tt)))))) found named
+      (inl refl, (inl refl, (inr refl, (inl refl, (inl refl, (inl refl, (inl refl, tt))))))) found named
 
   pub search_values : found.0 ≡ codes "search" → HasValues found.1 search_command.options
   search_values = values_of (codes "search") search_command.options commands
-      (inl refl, (inl refl, (inl refl, (inr refl, (inl refl, (inl refl, tt)))))) found named
+      (inl refl, (inl refl, (inl refl, (inr refl, (inl refl, (inl refl, (inl refl, tt))))))) found named
 
   pub league_values : found.0 ≡ codes "league" → HasValues found.1 league_command.options
   league_values = values_of (codes "league") league_command.options commands
-      (inl refl, (inl refl, (inl refl, (inl refl, (inl refl, (inr refl, tt)))))) found named
+      (inl refl, (inl refl, (inl refl, (inl refl, (inl refl, (inr refl, (inl refl, tt))))))) found named
 
 -- the subcommand that a parse met is its name and its rows
 pub met_is : {Z : Type 0} (met : Option (Box SubCommand Z)) (name : Text) (rows : List Row) →

@@ -17,7 +17,7 @@ use Rattle.options.specs.Beginnings.{Beginning, beginning_in}
 use Rattle.options.specs.Effort.{thousandths_in}
 use Rattle.options.specs.Files.{Files, files_of_command}
 use Rattle.options.specs.declared.job.Job.{Job}
-use Rattle.options.specs.declared.job.Job.TheVariants.{Start, Play, Improve, Find, Report, League}
+use Rattle.options.specs.declared.job.Job.TheVariants.{Start, Play, Improve, Find, Report, League, Bound}
 use Rattle.choices.specs.declared.symmetry.Symmetry.{Symmetry}
 use Rattle.choices.specs.declared.symmetry.Symmetry.TheVariants.{Mean, Max}
 use Rattle.choices.specs.Limits.{max_room}
@@ -202,8 +202,11 @@ terms_options = at_most_option ∷ hard_weight_option ∷ []
 abbrev pub league_command : CommandForm
 league_command = record { name = codes "league"; words = league_word ∷ []; options = terms_options; free = symmetric_option ∷ name_option ∷ [] }
 
+abbrev pub bound_command : CommandForm
+bound_command = record { name = codes "bound"; words = league_word ∷ []; options = []; free = [] }
+
 abbrev pub commands : List CommandForm
-commands = start_command ∷ play_command ∷ improve_command ∷ search_command ∷ report_command ∷ league_command ∷ []
+commands = start_command ∷ play_command ∷ improve_command ∷ search_command ∷ report_command ∷ league_command ∷ bound_command ∷ []
 
 -- an option and a command, as clap has them
 abbrev pub rule_of : OptionForm → Rule
@@ -317,7 +320,8 @@ job_of_command found = if bytes_eq found.0 (codes "start") then Some Start
     else (if bytes_eq found.0 (codes "improve") then improve_in found.1
     else (if bytes_eq found.0 (codes "search") then find_from (number_in (codes "room") found.1) (plan_in found.1)
     else (if bytes_eq found.0 (codes "report") then option_map Report (format_in found.1)
-    else (if bytes_eq found.0 (codes "league") then league_in found.1 else None)))))
+    else (if bytes_eq found.0 (codes "league") then league_in found.1
+    else (if bytes_eq found.0 (codes "bound") then Some Bound else None))))))
 
 -- the job that the words name
 abbrev pub job_of_words : List Text → Option Job
@@ -383,3 +387,4 @@ IsInRange (Improve workers seed effort seconds history) = IsImproveInRange worke
 IsInRange (Find room plan) = (room ≤ max_room) × IsPlanInRange plan
 IsInRange (Report format) = Unit {0}
 IsInRange (League choice at_most hard_weight) = IsLeagueInRange at_most hard_weight
+IsInRange Bound = Unit {0}

@@ -9,9 +9,9 @@ use crate::command_parts::{CommandArg, CommandParts};
 use crate::default_args::{EFFORT, FORMAT};
 use crate::flag_args::{BOM, HISTORY};
 use crate::help::{
-    IMPROVE_ABOUT, IMPROVE_EXAMPLE, LEAGUE_ABOUT, LEAGUE_EXAMPLE, PLAY_ABOUT, PLAY_LINES,
-    PROGRAM_ABOUT, PROGRAM_EXAMPLE, REPORT_ABOUT, REPORT_LINES, SEARCH_ABOUT, SEARCH_EXAMPLE,
-    START_ABOUT, START_EXAMPLE, VERSION,
+    BOUND_ABOUT, BOUND_EXAMPLE, IMPROVE_ABOUT, IMPROVE_EXAMPLE, LEAGUE_ABOUT, LEAGUE_EXAMPLE,
+    PLAY_ABOUT, PLAY_LINES, PROGRAM_ABOUT, PROGRAM_EXAMPLE, REPORT_ABOUT, REPORT_LINES,
+    SEARCH_ABOUT, SEARCH_EXAMPLE, START_ABOUT, START_EXAMPLE, VERSION,
 };
 use crate::number_args::{AT_MOST, HARD_WEIGHT, ROOM, SECONDS, SEED, SLACK, STEPS, WORKERS};
 use crate::text_args::{
@@ -109,7 +109,16 @@ static LEAGUE_OF_TABLE: CommandParts = CommandParts {
     ],
 };
 
-const NAMES: [&str; 6] = ["start", "play", "improve", "search", "report", "league"];
+static BOUND: CommandParts = CommandParts {
+    name: "bound",
+    about: BOUND_ABOUT,
+    after_help: BOUND_EXAMPLE,
+    args: &[CommandArg::Word(LEAGUE)],
+};
+
+const NAMES: [&str; 7] = [
+    "start", "play", "improve", "search", "report", "league", "bound",
+];
 
 /// The program's command line.
 pub(crate) fn program<'a>(alloc: Global) -> Result<Command<'a>, AllocError>
@@ -166,6 +175,7 @@ fn parts_named(name: &str) -> &'static CommandParts
         "search" => &SEARCH,
         "report" => &REPORT,
         "league" => &LEAGUE_OF_TABLE,
+        "bound" => &BOUND,
         _ => &START,
     }
 }

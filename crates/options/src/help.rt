@@ -91,6 +91,17 @@ pub(crate) const LEAGUE_EXAMPLE: &str =
 Example:
   ttp league leagues/valley-4-distances.csv > valley.json";
 
+pub(crate) const BOUND_ABOUT: &str =
+    "Reads a league from standard input and writes what no schedule of it travels less than";
+
+pub(crate) const BOUND_EXAMPLE: &str =
+    "A line for each team tells what its tour is at least, and the last line what all travel together.
+Schedules with more games in a row at home, or away, than the league allows may travel less
+(docs/bound.md).
+
+Example:
+  ttp bound leagues/circular-10.json";
+
 pub(crate) const DISTANCES_HELP: &str =
     "The file of the table, or `-` for standard input, which is read without it";
 

@@ -55,6 +55,8 @@ pub enum Job {
         /// The cost of each breach of a hard limit.
         hard_weight: Option<u64>,
     },
+    /// Write what no schedule of the league travels less than.
+    Bound,
 }
 
 /// Reads the program's words, the first of which is its name. The error is clap's, or in clap's form if clap takes a word that
@@ -94,6 +96,7 @@ pub(crate) fn job_of(name: &str, values: &ArgMatches) -> Option<Job>
         "search" => Some(find_of(values)),
         "report" => report_of(values),
         "league" => league_of(values),
+        "bound" => Some(Job::Bound),
         // a command is required, and `help` is answered as an error
         _ => None,
     }

@@ -1,4 +1,5 @@
-//! Chains at the start of a league, and legs on them.
+//! Chains at the start of a league, and legs on them. What owns a board has no way out but to end the test, since each `?` drops all that
+//! is held, and its proof with it.
 
 ghost use Rattle.policy.specs.Legs.{IsLeg, IsWeightCourse};
 
@@ -8,8 +9,8 @@ use draws::{Gate, NoGate, RunContext, each_round};
 use fixture_board::Board;
 use policy::{Course, Leg, MoveSet, WeightCourse};
 use std::alloc::Global;
+use std::process::Abort;
 use std::sync::Wait;
-use std::test::Fail;
 
 pub(crate) const WEIGHTS: WeightCourse = WeightCourse {
     first: 2_000_000,
@@ -45,38 +46,35 @@ pub(crate) const MILD: Asked = Asked {
 };
 
 /// A new board of the league.
-pub(crate) fn board_of(alloc: Global, sample: Sample, room: u32) -> Result<Board, Fail> {
-    Ok(Board::new(alloc, league_of(alloc, sample)?, room)?)
+pub(crate) fn board_of(rt: &impl Abort, alloc: Global, sample: Sample, room: u32) -> Board {
+    let league = league_of(alloc, sample).expect(rt, "a league");
+    Board::new(alloc, league, room).expect(rt, "a board")
 }
 
-/// A chain at the start of the league.
-pub(crate) fn chain_of(alloc: Global, sample: Sample, room: u32) -> Result<Chain, Fail> {
-    let board = board_of(alloc, sample, room)?;
-    let weight = WEIGHTS.first;
-    Ok(Chain { board, weight })
-}
-
-/// The chain after a leg in all rounds.
-pub(crate) fn gone_on<R: Wait, G: Gate>(
+/// The chain after a leg in all rounds, which begins at the board's start.
+pub(crate) fn gone_on<R: Wait + Abort, G: Gate>(
     run_context: RunContext<'_, R, G>,
-    chain: Chain,
+    board: Board,
     plan: LegPlan,
     weights: WeightCourse,
-) -> Result<Annealed, Fail>
+) -> Annealed
     requires leg { IsLeg plan.leg }
     requires weights { IsWeightCourse weights }
 {
-    let league = chain.board.league();
+    let league = board.league();
+    let unit = measure(run_context.alloc, league).expect(run_context.rt, "a unit");
     let conditions = Conditions {
-        unit: measure(run_context.alloc, league)?,
+        unit,
         rounds: each_round(league.teams()),
         weights,
     };
-    Ok(anneal(run_context, conditions, chain, plan)?)
+    let weight = weights.first;
+    let chain = Chain { board, weight };
+    anneal(run_context, conditions, chain, plan).expect(run_context.rt, "a leg")
 }
 
 /// The outcome of a leg, through no gate.
-pub(crate) fn annealed<R: Wait>(rt: &R, alloc: Global, asked: Asked) -> Result<Annealed, Fail>
+pub(crate) fn annealed<R: Wait + Abort>(rt: &R, alloc: Global, asked: Asked) -> Annealed
     requires { IsLeg asked.leg }
 {
     let Asked {
@@ -92,10 +90,10 @@ pub(crate) fn annealed<R: Wait>(rt: &R, alloc: Global, asked: Asked) -> Result<A
         None => None,
     };
     let gate = &NoGate;
-    let chain = chain_of(alloc, sample, room)?;
+    let board = board_of(rt, alloc, sample, room);
     gone_on(
         RunContext { rt, alloc, gate },
-        chain,
+        board,
         LegPlan { leg, seed, stream },
         WeightCourse { rule, ..WEIGHTS },
     )

@@ -1,17 +1,19 @@
 //! The reports of a leg to a gate.
 
-use crate::tests::chains::{MILD, WEIGHTS, chain_of, gone_on};
+use crate::tests::chains::{MILD, WEIGHTS, board_of, gone_on};
 use crate::tests::checks::check_same;
 use annealing::LegPlan;
 use draws::{Gate, Progress, RunContext};
 use fixture_board::Reply;
-use std::sync::{Mutex, Wait};
-use std::test::Fail;
+use std::alloc::Global;
+use std::process::Abort;
+use std::sync::Wait;
+use std::sync::atomic::{AtomicU64, Ordering};
 
-/// Adds up the steps, and counts the reports.
+/// Counts the reports.
 #[derive(Drop)]
 struct Counter {
-    reported: Mutex<(u64, u64)>,
+    reports: AtomicU64,
 }
 
 impl Gate for Counter {
@@ -23,31 +25,27 @@ impl Gate for Counter {
 
     fn left<R: Wait>(&self, _rt: &R, _worker: u32, _made: u32, _reply: Reply) {}
 
-    fn reported<R: Wait>(&self, rt: &R, _worker: u32, progress: Progress) {
-        let mut reported = self.reported.lock(rt);
-        reported.0 = reported.0.saturating_add(u64::from(progress.steps));
-        reported.1 = reported.1.saturating_add(1);
+    fn reported<R: Wait>(&self, _rt: &R, _worker: u32, _progress: Progress) {
+        self.reports.fetch_add(1, Ordering::SeqCst);
     }
 }
 
-#[test]
-fn each_step_is_reported(rt: HostRuntime) -> Result<(), Fail> {
-    let gate = Counter {
-        reported: Mutex::new((0, 0)),
+/// How often a leg of 5,000 steps reports.
+fn report_count<R: Wait + Abort>(rt: &R, alloc: Global) -> u64 {
+    let gate = &Counter {
+        reports: AtomicU64::new(0),
     };
-    let alloc = rt.alloc();
-    let chain = chain_of(alloc, MILD.sample, MILD.room)?;
+    let board = board_of(rt, alloc, MILD.sample, MILD.room);
     let plan = LegPlan {
         leg: MILD.leg,
         seed: 1,
         stream: 0,
     };
-    let run_context = RunContext {
-        rt: &rt,
-        alloc,
-        gate: &gate,
-    };
-    gone_on(run_context, chain, plan, WEIGHTS)?;
-    check_same(&rt, &gate.reported.into_inner(), &(5000, 5));
-    Ok(())
+    gone_on(RunContext { rt, alloc, gate }, board, plan, WEIGHTS);
+    gate.reports.load(Ordering::SeqCst)
+}
+
+#[test]
+fn each_block_is_reported(rt: HostRuntime) {
+    check_same(&rt, &report_count(&rt, rt.alloc()), &5);
 }

@@ -3,7 +3,7 @@
 ghost use Rattle.policy.specs.Legs.{IsLeg};
 
 use crate::tests::boards::check_same_board;
-use crate::tests::chains::{Asked, MILD, annealed, board_of};
+use crate::tests::chains::{Asked, MILD, annealed};
 use crate::tests::checks::{check_holds_of, check_same};
 use crate::tests::leagues::Sample;
 use crate::tests::twin::{Twin, twin_of};
@@ -12,7 +12,6 @@ use policy::{Course, Leg, LegEnd, MoveSet};
 use std::alloc::Global;
 use std::process::Abort;
 use std::sync::Wait;
-use std::test::Fail;
 
 /// Steps of which nearly all make a move.
 const HOT: Leg = Leg {
@@ -26,129 +25,92 @@ const HOT: Leg = Leg {
 
 const HEAT: u128 = 1_000_000_000;
 
-fn take_hot_block(twin: &mut Twin) {
-    twin.take_block(HOT.moves.kinds(), HEAT, 1000);
+/// A twin after three blocks, which has no room for another one.
+fn full_twin(rt: &impl Abort, alloc: Global, asked: Asked) -> Twin {
+    let mut twin = twin_of(rt, alloc, asked);
+    for _ in 0..3 {
+        twin.take_block(HEAT, 1000);
+    }
+    check_room(rt, &twin.board);
+    twin
 }
 
 /// Fewer than a thousand entries are left.
-fn check_room(rt: &impl Abort, twin: &Twin) {
-    let left = u64::from(twin.board.room()).saturating_sub(twin.board.version());
+fn check_room(rt: &impl Abort, board: &Board) {
+    let left = u64::from(board.room()).saturating_sub(board.version());
     check_holds_of(rt, &left, left < 1000);
 }
 
-/// A twin after three blocks, which has no room for another one.
-fn full_twin(rt: &impl Abort, alloc: Global, asked: Asked) -> Result<Twin, Fail> {
-    let mut twin = twin_of(alloc, asked)?;
-    for _ in 0..3 {
-        take_hot_block(&mut twin);
-    }
-    check_room(rt, &twin);
-    Ok(twin)
-}
-
 /// The leg leads to the board. Tells what it came to.
-fn check_board<R: Wait + Abort>(
-    rt: &R,
-    alloc: Global,
-    asked: Asked,
-    board: &Board,
-) -> Result<LegEnd, Fail>
+fn check_board<R: Wait + Abort>(rt: &R, alloc: Global, asked: Asked, board: &Board) -> LegEnd
     requires { IsLeg asked.leg }
 {
-    let found = annealed(rt, alloc, asked)?;
+    let found = annealed(rt, alloc, asked);
     check_same_board(rt, &found.chain.board, board);
-    Ok(found.end)
+    found.end
 }
 
 #[test]
-fn boards_are_cut_back_to_the_best(rt: HostRuntime) -> Result<(), Fail> {
+fn boards_are_cut_back_to_the_best(rt: HostRuntime) {
     let asked = Asked {
         leg: HOT,
         room: 3500,
         ..MILD
     };
-    let mut twin = full_twin(&rt, rt.alloc(), asked)?;
+    let mut twin = full_twin(&rt, rt.alloc(), asked);
     twin.board.rewind_to_best();
-    take_hot_block(&mut twin);
-    check_board(&rt, rt.alloc(), asked, &twin.board)?;
-    Ok(())
+    twin.take_block(HEAT, 1000);
+    check_board(&rt, rt.alloc(), asked, &twin.board);
 }
 
 #[test]
-fn chains_without_a_best_begin_anew(rt: HostRuntime) -> Result<(), Fail> {
+fn chains_without_a_best_begin_anew(rt: HostRuntime) {
     let asked = Asked {
         sample: Sample::Impossible,
         leg: HOT,
         room: 3000,
         ..MILD
     };
-    let twin = full_twin(&rt, rt.alloc(), asked)?;
+    let twin = full_twin(&rt, rt.alloc(), asked);
     // neither board has a feasible version, and of equals the first stays
-    let end = check_board(&rt, rt.alloc(), asked, &twin.board)?;
+    let end = check_board(&rt, rt.alloc(), asked, &twin.board);
     check_same(&rt, &(end.steps, end.best), &(4000, None));
-    Ok(())
 }
 
 /// The least total of blocks that each begin at the start.
-fn least_of_blocks(alloc: Global, asked: Asked) -> Result<Option<u64>, Fail> {
-    let mut twin = twin_of(alloc, asked)?;
+fn least_of_blocks(rt: &impl Abort, alloc: Global, asked: Asked) -> Option<u64> {
+    let mut twin = twin_of(rt, alloc, asked);
     let mut least = None;
     for heat in [600_000, 510_000, 420_000, 330_000, 240_000] {
-        twin.take_block(asked.leg.moves.kinds(), heat, 1000);
+        twin.take_block(heat, 1000);
         let best = best_total(&twin.board);
         least = best.min(least.or(best));
-        twin.begin_anew(alloc)?;
+        twin.begin_anew(rt, alloc);
     }
-    Ok(least)
+    least
 }
 
 fn best_total(board: &Board) -> Option<u64> {
     board.best().map(|best| best.total)
 }
 
-/// The best total that a leg tells, and that of its board.
-fn best_totals<R: Wait>(rt: &R, alloc: Global, asked: Asked) -> Result<[Option<u64>; 2], Fail>
-    requires { IsLeg asked.leg }
-{
-    let found = annealed(rt, alloc, asked)?;
-    Ok([found.end.best, best_total(&found.chain.board)])
-}
-
 #[test]
-fn chains_that_begin_anew_keep_the_best(rt: HostRuntime) -> Result<(), Fail> {
+fn chains_that_begin_anew_keep_the_best(rt: HostRuntime) {
     // room for one block
     let asked = Asked { room: 1000, ..MILD };
-    let least = least_of_blocks(rt.alloc(), asked)?;
-    let found = best_totals(&rt, rt.alloc(), asked)?;
-    check_same(&rt, &found, &[least, least]);
-    Ok(())
-}
-
-/// How many steps a leg took, how many entries its board has, and its best total.
-fn steps_and_entries<R: Wait>(
-    rt: &R,
-    alloc: Global,
-    asked: Asked,
-) -> Result<(u64, u64, Option<u64>), Fail>
-    requires { IsLeg asked.leg }
-{
-    let found = annealed(rt, alloc, asked)?;
-    Ok((found.end.steps, found.chain.board.version(), found.end.best))
+    let least = least_of_blocks(&rt, rt.alloc(), asked);
+    check_same(&rt, &annealed(&rt, rt.alloc(), asked).end.best, &least);
 }
 
 #[test]
-fn rooms_of_less_than_a_block_do(rt: HostRuntime) -> Result<(), Fail> {
+fn rooms_of_less_than_a_block_do(rt: HostRuntime) {
     let asked = Asked {
         leg: HOT,
         room: 10,
         ..MILD
     };
-    let start = board_of(rt.alloc(), asked.sample, asked.room)?
-        .cost()
-        .travel;
-    let (steps, entries, best) = steps_and_entries(&rt, rt.alloc(), asked)?;
-    check_same(&rt, &steps, &4000);
-    check_holds_of(&rt, &entries, entries <= 10);
-    check_holds_of(&rt, &best, best.is_some_and(|best| best <= start));
-    Ok(())
+    let end = annealed(&rt, rt.alloc(), asked).end;
+    check_same(&rt, &end.steps, &4000);
+    // eight teams in a circle travel 244 at the start
+    check_holds_of(&rt, &end.best, end.best.is_some_and(|best| best <= 244));
 }

@@ -1,15 +1,18 @@
 //! Legs made a second time, step by step.
 
+ghost use Rattle.std.specs.Prelude.{◌≤◌};
+ghost use Rattle.costs.specs.Costs.{AreWeights};
+
 use crate::tests::chains::{Asked, board_of};
 use crate::tests::leagues::Sample;
-use costs::{Cost, Weights};
+use costs::Weights;
 use draws::{Draws, draw_among, each_round};
 use fixture_board::{Board, Trial};
-use moves::MoveKind;
+use policy::MoveSet;
 use rand_core::Rng;
 use rand_pcg::Lcg64Xsh32;
 use std::alloc::Global;
-use std::test::Fail;
+use std::process::Abort;
 
 /// 65536 times -ln((i + 1/2) / 256), to the nearest whole number, as Python gives it.
 static QUANTILES: [u32; 256] = [
@@ -41,78 +44,99 @@ pub(crate) struct Twin {
     pub(crate) board: Board,
     pub(crate) weight: u128,
     /// What a breach of a rule weighs at least, if that is apart.
-    pub(crate) rule: Option<u64>,
-    pub(crate) generator: Lcg64Xsh32,
+    rule: Option<u64>,
+    moves: MoveSet,
+    generator: Lcg64Xsh32,
     /// The unit, as a fraction.
-    pub(crate) unit: (u128, u128),
+    unit: (u128, u128),
 }
 
 /// A twin at the start of a leg in a circle of eight teams or in four places that are all 1 apart: the unit is the mean distance, the sum of the
 /// distances by their number.
-pub(crate) fn twin_of(alloc: Global, asked: Asked) -> Result<Twin, Fail> {
+pub(crate) fn twin_of(rt: &impl Abort, alloc: Global, asked: Asked) -> Twin {
     let unit = match asked.sample {
         // 8 (1 + 2 + 3 + 4 + 3 + 2 + 1) and 8 * 7
         Sample::Circle => (128, 56),
         _ => (12, 12),
     };
-    Ok(Twin {
-        board: board_of(alloc, asked.sample, asked.room)?,
+    Twin {
+        board: board_of(rt, alloc, asked.sample, asked.room),
         weight: 2_000_000,
         rule: asked.rule,
+        moves: asked.leg.moves,
         generator: Lcg64Xsh32::new(asked.seed, asked.stream),
         unit,
-    })
+    }
 }
 
 impl Twin {
     /// Takes so many steps at a temperature in millionths of the unit, and lets the weight follow.
-    pub(crate) fn take_block(&mut self, kinds: &'static [MoveKind], heat: u128, steps: u32) {
-        let (numerator, denominator) = self.unit;
-        let millionths = denominator.saturating_mul(1_000_000).max(1);
-        let temperature = heat.saturating_mul(numerator).saturating_mul(1024) / millionths;
-        let whole = |weight: u128| (weight.saturating_mul(numerator) / millionths).clamp(
-            1, 1_000_000,
-        );
-        let weight = whole(self.weight);
-        let rule = self.rule.map_or(weight, |rule| whole(u128::from(rule)));
-        let weights = Weights {
-            breach: weight as u32,
-            rule: rule.saturating_sub(weight) as u32,
-        };
+    pub(crate) fn take_block(&mut self, heat: u128, steps: u32) {
+        let scaled = heat.saturating_mul(self.unit.0).saturating_mul(1024);
+        let temperature = scaled / self.millionths();
+        let weights = self.weights();
         let mut feasible: u32 = 0;
         for _ in 0..steps {
-            let Cost { hard, of_rules, .. } = self.board.cost();
-            if hard == 0 || (self.rule.is_some() && hard == of_rules) {
-                feasible = feasible.saturating_add(1);
-            }
-            self.step(kinds, temperature, weights);
+            feasible = feasible.saturating_add(u32::from(self.is_feasible()));
+            self.step(temperature, weights);
         }
         self.adapt(feasible, steps);
     }
 
+    /// How many millionths a unit's denominator has.
+    fn millionths(&self) -> u128
+        ensures { 1 ≤ result }
+    {
+        self.unit.1.saturating_mul(1_000_000).max(1)
+    }
+
+    /// A weight in whole numbers.
+    fn whole(&self, weight: u128) -> u32
+        ensures { (1 ≤ result) × (result ≤ 1000000) }
+    {
+        let scaled = weight.saturating_mul(self.unit.0) / self.millionths();
+        scaled.clamp(1, 1_000_000) as u32
+    }
+
+    fn weights(&self) -> Weights
+        ensures { AreWeights result }
+    {
+        let breach = self.whole(self.weight);
+        let rule = match self.rule {
+            Some(rule) => self.whole(u128::from(rule)),
+            None => breach,
+        };
+        Weights {
+            breach,
+            rule: rule.saturating_sub(breach),
+        }
+    }
+
+    /// Whether no limit is broken, or none but of rules where these weigh apart.
+    fn is_feasible(&self) -> bool {
+        let cost = self.board.cost();
+        cost.hard == 0 || (self.rule.is_some() && cost.hard == cost.of_rules)
+    }
+
     /// Goes back to the start of the league.
-    pub(crate) fn begin_anew(&mut self, alloc: Global) -> Result<(), Fail> {
-        self.board = self.board.anew(alloc)?;
-        Ok(())
+    pub(crate) fn begin_anew(&mut self, rt: &impl Abort, alloc: Global) {
+        self.board = self.board.anew(alloc).expect(rt, "a board");
     }
 
     /// Draws a threshold and then a move, and tries the move.
-    fn step(&mut self, kinds: &'static [MoveKind], temperature: u128, weights: Weights) {
+    fn step(&mut self, temperature: u128, weights: Weights)
+        requires { AreWeights weights }
+    {
         let quantile = QUANTILES[(self.generator.next_u32() >> 24) as usize];
         let rise = temperature.saturating_mul(u128::from(quantile)) / 67_108_864;
+        let rise = u64::try_from(rise).unwrap_or(u64::MAX);
         let teams = self.board.league().teams();
-        let rounds = each_round(teams);
-        let both = u64::from(weights.breach).saturating_add(u64::from(weights.rule));
-        if weights.breach < 1 || both > 4_294_967_295 || kinds.is_empty() || kinds.len() > 5 {
-            return;
-        }
         let draws = Draws {
             teams,
-            kinds,
-            rounds,
+            kinds: self.moves.kinds(),
+            rounds: each_round(teams),
         };
         let mv = draw_among(&mut self.generator, draws);
-        let rise = u64::try_from(rise).unwrap_or(u64::MAX);
         self.board.try_move(0, Trial { mv, weights, rise });
     }
 

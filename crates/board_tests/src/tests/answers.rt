@@ -6,18 +6,14 @@ use fixtures::Schedule;
 use std::process::Abort;
 use tours::travel_of;
 
-pub(crate) fn done(at: u64, travel: u64, hard: u64) -> Reply {
-    let cost = Cost {
+/// A cost without a breach of a rule.
+pub(crate) fn cost(travel: u64, hard: u64, soft: u64) -> Cost {
+    Cost {
         travel,
         hard,
         of_rules: 0,
-        soft: 0,
-    };
-    Reply::Done { at, cost }
-}
-
-pub(crate) fn no(at: u64, why: Why) -> Reply {
-    Reply::No { at, why }
+        soft,
+    }
 }
 
 /// The answer.
@@ -35,20 +31,13 @@ pub(crate) enum Answer {
 
 impl Answer {
     pub(crate) fn reply(self) -> Reply {
-        match self {
-            Answer::Done(at, travel, hard) => done(at, travel, hard),
-            Answer::Cost(at, cost) => Reply::Done { at, cost },
-            Answer::Soft(at, travel, soft) => {
-                let cost = Cost {
-                    travel,
-                    hard: 0,
-                    of_rules: 0,
-                    soft,
-                };
-                Reply::Done { at, cost }
-            }
-            Answer::No(at, why) => no(at, why),
-        }
+        let (at, cost) = match self {
+            Answer::Done(at, travel, hard) => (at, cost(travel, hard, 0)),
+            Answer::Cost(at, cost) => (at, cost),
+            Answer::Soft(at, travel, soft) => (at, cost(travel, 0, soft)),
+            Answer::No(at, why) => return Reply::No { at, why },
+        };
+        Reply::Done { at, cost }
     }
 }
 
@@ -56,21 +45,10 @@ pub(crate) fn best(at: u64, total: u64) -> Option<Best> {
     Some(Best { at, total })
 }
 
-/// The cost of nothing but travel.
-pub(crate) fn travel(travel: u64) -> Cost {
-    Cost {
-        travel,
-        hard: 0,
-        of_rules: 0,
-        soft: 0,
-    }
-}
-
-pub(crate) fn seen(version: u64, cost: u64) -> Seen {
-    Seen {
-        version,
-        cost: travel(cost),
-    }
+/// A version that costs nothing but travel.
+pub(crate) fn seen(version: u64, travel: u64) -> Seen {
+    let cost = cost(travel, 0, 0);
+    Seen { version, cost }
 }
 
 /// Whether the game of two teams, which count from 1, is pinned.

@@ -2,14 +2,14 @@
 
 use crate::tests::answers::Answer::{Done, No};
 use crate::tests::questions::Asked;
-use crate::tests::steps::Act::{Answer, Ask, AskBy, Homes, Rounds, Shift, Teams, Undo};
+use crate::tests::steps::Act::{Ask, AskBy, Homes, Rounds, Shift, Teams, Undo};
 use crate::tests::steps::Sight::{Best, BestRound, Cost, Entry, Round, Travels, Version};
 use crate::tests::steps::Step::{self, Do, See};
-use crate::tests::steps::check_board;
+use crate::tests::steps::{Case, check_cases};
 use fixture_board::{Change, Why};
 use moves::Move;
-use std::test::Fail;
 
+/// Undo restores the travel and leaves the best.
 const HOMES_UNDONE: &[Step] = &[
     See(Cost(30, 0, 0)),
     See(Best(0, 30)),
@@ -25,14 +25,9 @@ const HOMES_UNDONE: &[Step] = &[
     See(Entry(1, 0, Change::Undo)),
 ];
 
-#[test]
-fn undo_restores_the_travel_and_leaves_the_best(rt: HostRuntime) -> Result<(), Fail> {
-    check_board(&rt, rt.alloc(), 1024, HOMES_UNDONE)
-}
-
 const ROUNDS: Move = Move::Rounds { k: 1, l: 3 };
 
-/// Two rounds exchanged within a slack, as caller 7.
+/// Slack bounds the score and not the travel: two rounds exchanged within a slack, as caller 7.
 const WITHIN: &[Step] = &[
     Do(AskBy(7, Asked::Shift(0, ROUNDS, None, 0), No(0, Why::Worse))),
     Do(AskBy(7, Asked::Shift(0, ROUNDS, None, 399), No(0, Why::Worse))),
@@ -44,53 +39,45 @@ const WITHIN: &[Step] = &[
     See(Entry(0, 7, Change::Shift(ROUNDS))),
 ];
 
-#[test]
-fn slack_bounds_the_score_and_not_the_travel(rt: HostRuntime) -> Result<(), Fail> {
-    check_board(&rt, rt.alloc(), 1024, WITHIN)
-}
-
-/// Moves of boards without an entry.
-const FIRST_MOVES: &[Step] = &[
-    Do(Rounds(1, 3, Done(1, 32, 2))),
-    Do(Rounds(5, 6, Done(1, 28, 0))),
-    Do(Teams(1, 2, Done(1, 26, 0))),
-    Do(Homes(1, 4, Done(1, 30, 0))),
-    Do(Homes(1, 1, No(0, Why::BadMove))),
-    Do(Rounds(1, 7, No(0, Why::BadMove))),
+/// Moves of whole rounds and teams, and of parts of them. Each team travels its own tour.
+const FIRST_MOVES: &[Case] = &[
+    (8, &[Do(Rounds(1, 3, Done(1, 32, 2)))]),
+    (
+        8,
+        &[Do(Rounds(5, 6, Done(1, 28, 0))), See(Travels([6, 6, 8, 8]))],
+    ),
+    (
+        8,
+        &[Do(Teams(1, 2, Done(1, 26, 0))), See(Travels([6, 6, 6, 8]))],
+    ),
+    (
+        8,
+        &[Do(Homes(1, 2, Done(1, 26, 0))), See(Travels([4, 6, 8, 8]))],
+    ),
+    (8, &[Do(Homes(1, 4, Done(1, 30, 0)))]),
+    (8, &[Do(Homes(1, 1, No(0, Why::BadMove)))]),
+    (8, &[Do(Rounds(1, 7, No(0, Why::BadMove)))]),
+    (
+        8,
+        &[Do(Shift(Move::PartRounds { i: 0, k: 0, l: 3 }, Done(1, 30, 0)))],
+    ),
+    (
+        8,
+        &[Do(Shift(Move::PartTeams { i: 0, j: 2, k: 0 }, Done(1, 28, 4)))],
+    ),
+    (
+        8,
+        &[Do(Shift(Move::PartTeams { i: 0, j: 2, k: 2 }, No(0, Why::Meet)))],
+    ),
 ];
-
-#[test]
-fn moves_of_whole_rounds_and_teams(rt: HostRuntime) -> Result<(), Fail> {
-    for &first in FIRST_MOVES {
-        check_board(&rt, rt.alloc(), 8, &[first])?;
-    }
-    Ok(())
-}
-
-const FIRST_PARTIAL_MOVES: &[Step] = &[
-    Do(Shift(Move::PartRounds { i: 0, k: 0, l: 3 }, Done(1, 30, 0))),
-    Do(Shift(Move::PartTeams { i: 0, j: 2, k: 0 }, Done(1, 28, 4))),
-    Do(Shift(Move::PartTeams { i: 0, j: 2, k: 2 }, No(0, Why::Meet))),
-];
-
-#[test]
-fn moves_of_parts_of_rounds_and_teams(rt: HostRuntime) -> Result<(), Fail> {
-    for &first in FIRST_PARTIAL_MOVES {
-        check_board(&rt, rt.alloc(), 8, &[first])?;
-    }
-    Ok(())
-}
 
 /// Teams 1 and 2 exchanged.
 const TEAMS: Move = Move::Teams { i: 0, j: 1 };
 
+/// A claim has to be the score.
 const RIGHT_CLAIM: &[Step] = &[Do(Ask(Asked::Shift(0, TEAMS, Some(26), 0), Done(1, 26, 0)))];
 
-#[test]
-fn a_claim_has_to_be_the_score(rt: HostRuntime) -> Result<(), Fail> {
-    check_board(&rt, rt.alloc(), 8, RIGHT_CLAIM)
-}
-
+/// A claim that is not the score is refused.
 const WRONG_CLAIM: &[Step] = &[
     Do(Ask(Asked::Shift(0, TEAMS, Some(25), 0), No(0, Why::WrongClaim))),
     Do(Ask(Asked::Shift(0, TEAMS, Some(27), 0), No(0, Why::WrongClaim))),
@@ -108,37 +95,14 @@ const WRONG_CLAIM: &[Step] = &[
     Do(Ask(Asked::Shift(1, TEAMS, Some(26), 0), No(0, Why::Ahead))),
 ];
 
-#[test]
-fn a_claim_that_is_not_the_score_is_refused(rt: HostRuntime) -> Result<(), Fail> {
-    check_board(&rt, rt.alloc(), 8, WRONG_CLAIM)
-}
-
+/// A claim at an old version is ignored.
 const OLD_CLAIM: &[Step] = &[
     Do(Homes(1, 2, Done(1, 26, 0))),
     Do(Ask(Asked::Shift(0, TEAMS, Some(999), 0), Done(2, 26, 0))),
     See(Travels([8, 4, 6, 8])),
 ];
 
-#[test]
-fn a_claim_at_an_old_version_is_ignored(rt: HostRuntime) -> Result<(), Fail> {
-    check_board(&rt, rt.alloc(), 8, OLD_CLAIM)
-}
-
-/// Moves of boards without an entry, and the tours after each.
-const TOURS: &[(Step, [u64; 4])] = &[
-    (Do(Homes(1, 2, Done(1, 26, 0))), [4, 6, 8, 8]),
-    (Do(Teams(1, 2, Done(1, 26, 0))), [6, 6, 6, 8]),
-    (Do(Rounds(5, 6, Done(1, 28, 0))), [6, 6, 8, 8]),
-];
-
-#[test]
-fn each_team_travels_its_own_tour(rt: HostRuntime) -> Result<(), Fail> {
-    for &(first, tours) in TOURS {
-        check_board(&rt, rt.alloc(), 8, &[first, See(Travels(tours))])?;
-    }
-    Ok(())
-}
-
+/// The best stays at its first version.
 const SAME_TOTAL_TWICE: &[Step] = &[
     Do(Homes(1, 2, Done(1, 26, 0))),
     Do(Undo(Done(2, 30, 0))),
@@ -146,23 +110,17 @@ const SAME_TOTAL_TWICE: &[Step] = &[
     See(Best(1, 26)),
 ];
 
-#[test]
-fn the_best_stays_at_its_first_version(rt: HostRuntime) -> Result<(), Fail> {
-    check_board(&rt, rt.alloc(), 1024, SAME_TOTAL_TWICE)
-}
-
-/// Rounds 1 and 2 exchanged at version 1, whatever it costs.
-const SHIFT: Asked = Asked::Shift(1, Move::Rounds { k: 0, l: 1 }, None, u64::MAX);
-
-const ANSWERED: &[Step] = &[
-    Do(Answer(Asked::Pin(0, 0, 0, 3), Done(1, 30, 0))),
-    Do(Answer(SHIFT, No(1, Why::Pinned))),
-    Do(Answer(Asked::Undo(1), Done(2, 30, 0))),
-    Do(Answer(SHIFT, Done(3, 28, 0))),
-    Do(Answer(Asked::Unpin(3, 0, 0, 3), No(3, Why::NotThere))),
+const CASES: &[Case] = &[
+    (1024, HOMES_UNDONE),
+    (1024, WITHIN),
+    (8, RIGHT_CLAIM),
+    (8, WRONG_CLAIM),
+    (8, OLD_CLAIM),
+    (1024, SAME_TOTAL_TWICE),
 ];
 
 #[test]
-fn what_is_asked_is_answered_by_its_call(rt: HostRuntime) -> Result<(), Fail> {
-    check_board(&rt, rt.alloc(), 8, ANSWERED)
+fn changes_of_one_board(rt: HostRuntime) {
+    check_cases(&rt, rt.alloc(), FIRST_MOVES);
+    check_cases(&rt, rt.alloc(), CASES);
 }

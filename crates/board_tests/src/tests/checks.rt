@@ -2,11 +2,10 @@
 //! since each carries all that is alive in it. A table that a function of `steps.rt` reads is proved faster still.
 
 use crate::tests::answers::{is_pinned, round_of, travels};
-use crate::tests::questions::{ask_board, pin, shift, undo, unpin, would_shift};
+use crate::tests::questions::ask_board;
 use costs::Cost;
 use fixture_board::{Ask, Best, Board, Change, Entry, Reply};
-use fixtures::{Game, Schedule};
-use moves::Move;
+use fixtures::Schedule;
 use std::fmt::Debug;
 use std::process::Abort;
 
@@ -15,47 +14,19 @@ pub(crate) fn check_same<T: PartialEq + Debug>(rt: &impl Abort, found: &T, wante
     assert_eq!(rt; found, wanted);
 }
 
-/// Something holds, which is about this.
-pub(crate) fn check_holds(rt: &impl Abort, about: &impl Debug, holds: bool) {
-    assert!(rt; holds, "{about:?}");
-}
-
-/// Checks the answer to a question by a call of its own.
+/// Checks the answer to a question by the call that it stands for. That of a move is told before.
 pub(crate) fn check_ask(rt: &impl Abort, board: &mut Board, caller: u32, ask: Ask, reply: Reply) {
+    if let Ask::Shift(proposal) = ask {
+        check_same(rt, &(ask, board.would_answer(proposal)), &(ask, reply));
+    }
     check_same(rt, &(ask, ask_board(board, caller, ask)), &(ask, reply));
 }
 
-/// Checks the answer to a question by the call for all, as caller 0.
-pub(crate) fn check_answer(rt: &impl Abort, board: &mut Board, ask: Ask, reply: Reply) {
-    check_same(rt, &(ask, board.answer(0, ask)), &(ask, reply));
-}
-
-// what is asked at the board's version, as caller 0, is answered so
-
-/// It is told before.
-pub(crate) fn check_shift(rt: &impl Abort, board: &mut Board, mv: Move, reply: Reply) {
-    check_same(rt, &(mv, would_shift(board, mv)), &(mv, reply));
-    check_same(rt, &(mv, shift(board, mv)), &(mv, reply));
-}
-
-pub(crate) fn check_pin(rt: &impl Abort, board: &mut Board, game: Game, reply: Reply) {
-    check_same(
-        rt,
-        &("to pin", game, pin(board, game)),
-        &("to pin", game, reply),
-    );
-}
-
-pub(crate) fn check_unpin(rt: &impl Abort, board: &mut Board, game: Game, reply: Reply) {
-    check_same(
-        rt,
-        &("to unpin", game, unpin(board, game)),
-        &("to unpin", game, reply),
-    );
-}
-
-pub(crate) fn check_undo(rt: &impl Abort, board: &mut Board, reply: Reply) {
-    check_same(rt, &("an undo", undo(board)), &("an undo", reply));
+/// The boards show the same.
+pub(crate) fn check_alike(rt: &impl Abort, one: &Board, other: &Board) {
+    let shown = (one.version(), one.cost(), one.best());
+    check_same(rt, &shown, &(other.version(), other.cost(), other.best()));
+    check_same(rt, &one.schedule().is_same(other.schedule()), &true);
 }
 
 // what a board shows; its teams and rounds count from 1
@@ -89,20 +60,12 @@ pub(crate) fn check_version(rt: &impl Abort, board: &Board, version: u64) {
 
 pub(crate) fn check_pinned(rt: &impl Abort, board: &Board, home: u8, away: u8, is: bool) {
     let found = is_pinned(rt, board, home, away);
-    check_same(
-        rt,
-        &("pinned", home, away, found),
-        &("pinned", home, away, is),
-    );
+    check_same(rt, &(home, away, found), &(home, away, is));
 }
 
 pub(crate) fn check_round(rt: &impl Abort, schedule: &Schedule, home: u8, away: u8, round: u8) {
     let found = round_of(rt, schedule, home, away);
-    check_same(
-        rt,
-        &("the round", home, away, found),
-        &("the round", home, away, round),
-    );
+    check_same(rt, &(home, away, found), &(home, away, round));
 }
 
 pub(crate) fn check_travels(rt: &impl Abort, board: &Board, tours: [u64; 4]) {

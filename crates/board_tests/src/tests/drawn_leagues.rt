@@ -1,17 +1,14 @@
 //! Leagues and schedules that a linear congruence draws, as `scripts/oracle starts` does.
 
-ghost use Rattle.std.specs.Prelude.{◌≡◌, IfOk};
-ghost use Rattle.league.specs.League.{teams};
-
 use crate::tests::drawn_numbers::{among, drawn, drawn_move, next_word, part};
-use crate::tests::kept_cost::push_names;
 use fixtures::{Schedule, berger};
 use league::League;
 use league::limits::{MAX_TEAMS, MAX_WEIGHT, MIN_TEAMS, round_count};
 use league_json::read_league;
 use moves::{apply, check};
 use std::alloc::Global;
-use std::test::Fail;
+use std::fmt::Write;
+use std::process::Abort;
 
 /// One rule of each class, of teams and slots that each league has.
 const RULES: &[&str] = &[
@@ -35,88 +32,101 @@ fn distance(key: u64, a: u8, b: u8) -> u8 {
     part(next_word(key.wrapping_add(pair)), 33, 200)
 }
 
-/// Adds a row of the distances.
-fn push_row(alloc: Global, text: &mut String, key: u64, teams: u8, from: u8) -> Result<(), Fail> {
-    text.push_str(if from == 0 { "[" } else { ",[" })?;
-    for to in 0..teams {
-        let separator = if to == 0 { "" } else { "," };
-        let distance = distance(key, from, to);
-        text.push_str(&format!(in alloc; "{separator}{distance}")?)?;
+// a text that got no memory is no league's, which is told where it is read
+
+/// Adds the names of the teams.
+fn write_names(text: &mut String, teams: u8) {
+    for team in 0..teams {
+        let separator = if team == 0 { "" } else { "," };
+        let _ = write!(text, "{separator}\"T{team}\"");
     }
-    text.push_str("]")?;
-    Ok(())
+}
+
+/// Adds a row of the distances.
+fn write_row(text: &mut String, key: u64, teams: u8, from: u8) {
+    for to in 0..teams {
+        let separator = match (from, to) {
+            (0, 0) => "[",
+            (_, 0) => "],[",
+            _ => ",",
+        };
+        let distance = distance(key, from, to);
+        let _ = write!(text, "{separator}{distance}");
+    }
+}
+
+/// Adds the rows of the distances, by the next word.
+fn write_rows(text: &mut String, state: &mut u64, teams: u8) {
+    *state = next_word(*state);
+    for from in 0..teams {
+        write_row(text, *state, teams, from);
+    }
 }
 
 /// Adds those of the rules that are drawn.
-fn push_rules(text: &mut String, state: &mut u64) -> Result<(), Fail> {
+fn write_rules(text: &mut String, state: &mut u64) {
     let mut is_first = true;
     for &rule in RULES {
         if drawn(state, 3) == 0 {
-            text.push_str(if is_first { "" } else { "," })?;
-            text.push_str(rule)?;
+            let separator = if is_first { "" } else { "," };
+            let _ = write!(text, "{separator}{rule}");
             is_first = false;
         }
     }
-    Ok(())
 }
 
 /// Adds the limits and the start, and tells whether another start is to be given.
-fn push_limits(alloc: Global, text: &mut String, state: &mut u64) -> Result<bool, Fail> {
+fn write_limits(text: &mut String, state: &mut u64) -> bool {
     let at_most = among(state, &[2, 3, 4, 78]);
     let hard_weight = among(state, &[1, 100, 1000]);
     let phased = drawn(state, 4) == 0;
     let kind = drawn(state, 4);
     let start = if kind == 1 { "fide" } else { "plain" };
-    text.push_str(&format!(in alloc;
-        "\"at_most\":{at_most},\"hard_weight\":{hard_weight},\"phased\":{phased},\"start\":\"{start}\","
-    )?)?;
-    Ok(kind > 1)
+    let _ = write!(
+        text,
+        "\"at_most\":{at_most},\"hard_weight\":{hard_weight},\"phased\":{phased},\"start\":\"{start}\""
+    );
+    kind > 1
 }
 
-/// A league of so many teams, and whether a start is to be given.
-fn read_drawn(alloc: Global, state: &mut u64, teams: u8) -> Result<(League, bool), Fail> {
-    let mut text = String::from_str(alloc, "{\"format\":2,")?;
-    let is_given = push_limits(alloc, &mut text, state)?;
-    push_names(alloc, &mut text, teams)?;
-    text.push_str(",\"distances\":[")?;
-    *state = next_word(*state);
-    let key = *state;
-    for from in 0..teams {
-        push_row(alloc, &mut text, key, teams, from)?;
-    }
-    text.push_str("],\"rules\":[")?;
-    push_rules(&mut text, state)?;
-    text.push_str("]}")?;
-    Ok((read_league(alloc, text.as_bytes())?, is_given))
+/// Adds the members of a league of so many teams, and tells whether another start is to be given.
+fn write_league(text: &mut String, state: &mut u64, teams: u8) -> bool {
+    let _ = text.write_str("{\"format\":2,");
+    let is_given = write_limits(text, state);
+    let _ = text.write_str(",\"teams\":[");
+    write_names(text, teams);
+    let _ = text.write_str("],\"distances\":[");
+    write_rows(text, state, teams);
+    let _ = text.write_str("]],\"rules\":[");
+    write_rules(text, state);
+    let _ = text.write_str("]}");
+    is_given
 }
 
-/// The Berger table of so many teams, after those of so many drawn moves that can be made.
-pub(crate) fn drawn_start(
-    alloc: Global,
-    state: &mut u64,
-    teams: u8,
-    moves: u64,
-) -> Result<Schedule, Fail> {
-    if teams < MIN_TEAMS || teams > MAX_TEAMS || teams % 2 != 0 {
-        return Err("a number of teams".into());
-    }
-    let mut schedule = berger(alloc, teams)?;
+/// Makes those of so many drawn moves that can be made.
+fn make_drawn(schedule: &mut Schedule, state: &mut u64, moves: u64) {
     for _ in 0..moves {
-        let mv = drawn_move(state, teams);
-        if check(&schedule, mv).is_ok() {
-            apply(&mut schedule, mv);
+        let mv = drawn_move(state, schedule.teams());
+        if check(schedule, mv).is_ok() {
+            apply(schedule, mv);
         }
     }
-    Ok(schedule)
 }
 
-/// Has the league begin at the schedule, if that is for as many teams.
-pub(crate) fn begin_at(league: &mut League, start: Schedule) -> Result<(), Fail> {
-    if start.teams() != league.teams() {
-        return Err("another number of teams".into());
-    }
+/// Has the league begin at the Berger table after three or fifty drawn moves.
+fn begin_drawn(rt: &impl Abort, alloc: Global, league: &mut League, state: &mut u64) {
+    let teams = league.teams();
+    assert!(rt; MIN_TEAMS <= teams && teams <= MAX_TEAMS && teams % 2 == 0);
+    let mut start = berger(alloc, teams).expect(rt, "a table");
+    let moves = among(state, &[3, 50]);
+    make_drawn(&mut start, state, moves);
+    begin_at(rt, league, start);
+}
+
+/// Has the league begin at the schedule.
+pub(crate) fn begin_at(rt: &impl Abort, league: &mut League, start: Schedule) {
+    assert!(rt; start.teams() == league.teams());
     league.begin_at(start);
-    Ok(())
 }
 
 /// Keeps the game of the pair, if it is one.
@@ -143,21 +153,22 @@ fn keep_drawn_games(league: &mut League, state: &mut u64) {
 }
 
 /// Sets what a game costs that has left its round, up to the greatest weight.
-pub(crate) fn set_near(league: &mut League, near: u64) {
+fn set_near(league: &mut League, near: u64) {
     if near <= u64::from(MAX_WEIGHT) {
         league.set_near(near as u32);
     }
 }
 
 /// A league with a start, kept games and a price for leaving the start.
-pub(crate) fn drawn_league(alloc: Global, state: &mut u64, teams: u8) -> Result<League, Fail> {
-    let (mut league, is_given) = read_drawn(alloc, state, teams)?;
+pub(crate) fn drawn_league(rt: &impl Abort, alloc: Global, state: &mut u64, teams: u8) -> League {
+    let mut text = String::new(alloc);
+    let is_given = write_league(&mut text, state, teams);
+    let mut league = read_league(alloc, text.as_bytes()).expect(rt, "a league");
     if is_given {
-        let moves = among(state, &[3, 50]);
-        begin_at(&mut league, drawn_start(alloc, state, teams, moves)?)?;
+        begin_drawn(rt, alloc, &mut league, state);
     }
     set_near(&mut league, among(state, &[1, 7, 100, 1_000_000]));
     keep_drawn_rounds(&mut league, state);
     keep_drawn_games(&mut league, state);
-    Ok(league)
+    league
 }

@@ -6,11 +6,11 @@ use crate::tests::questions::Asked;
 use crate::tests::steps::Act::{Ask, Rounds, Undo};
 use crate::tests::steps::Sight::{Best, Cost};
 use crate::tests::steps::Step::{self, Do, See};
-use crate::tests::steps::check_board_with;
+use crate::tests::steps::{LeagueCase, check_league_cases};
 use fixture_board::Why;
 use moves::Move;
-use std::test::Fail;
 
+/// A repeat is no breach where repeats are free.
 const FREE: &[Step] = &[
     See(Cost(30, 0, 0)),
     Do(Rounds(1, 5, Done(1, 28, 0))),
@@ -18,12 +18,7 @@ const FREE: &[Step] = &[
     Do(Undo(Done(2, 30, 0))),
 ];
 
-#[test]
-fn a_repeat_is_no_breach_where_repeats_are_free(rt: HostRuntime) -> Result<(), Fail> {
-    check_board_with(&rt, rt.alloc(), (3, "\"repeats\":\"free\""), FREE)
-}
-
-/// First without slack.
+/// A repeat is a breach elsewhere. First without slack.
 const FORBIDDEN: &[Step] = &[
     Do(Ask(
         Asked::Shift(0, Move::Rounds { k: 0, l: 4 }, None, 0),
@@ -34,15 +29,15 @@ const FORBIDDEN: &[Step] = &[
     Do(Undo(Done(2, 30, 0))),
 ];
 
+const CASES: &[LeagueCase] = &[
+    (3, "\"repeats\":\"free\"", FREE),
+    (1, "\"repeats\":\"free\"", FORBIDDEN),
+    (2, "\"repeats\":\"free\"", FORBIDDEN),
+    (3, "\"repeats\":\"forbidden\"", FORBIDDEN),
+    (3, "\"phased\":false", FORBIDDEN),
+];
+
 #[test]
-fn a_repeat_is_a_breach_elsewhere(rt: HostRuntime) -> Result<(), Fail> {
-    for case in [
-        (1, "\"repeats\":\"free\""),
-        (2, "\"repeats\":\"free\""),
-        (3, "\"repeats\":\"forbidden\""),
-        (3, "\"phased\":false"),
-    ] {
-        check_board_with(&rt, rt.alloc(), case, FORBIDDEN)?;
-    }
-    Ok(())
+fn repeats_that_are_free_and_forbidden(rt: HostRuntime) {
+    check_league_cases(&rt, rt.alloc(), CASES);
 }

@@ -1,44 +1,41 @@
 //! Four teams in a circle on a given start, with figures that were worked out by hand.
 
-ghost use Rattle.std.specs.Prelude.{◌≡◌, [], IfOk};
-
 use crate::tests::answers::Answer::{Done, No, Soft};
+use crate::tests::boards::new_board;
+use crate::tests::drawn_leagues::begin_at;
 use crate::tests::steps::Act::{Homes, Pin, Rounds, Teams, Undo, Unpin};
 use crate::tests::steps::Sight::{Best, Cost, Pinned, Round};
 use crate::tests::steps::Step::{self, Do, See};
 use crate::tests::steps::check_steps;
-use fixture_board::{Board, Why};
+use fixture_board::Why;
 use fixtures::{Schedule, berger};
 use league::{League, TeamSet, circular};
-use std::alloc::{AllocError, Global};
-use std::test::Fail;
+use std::alloc::Global;
+use std::process::Abort;
 
 /// The Berger table with rounds 5 and 6 exchanged.
-fn exchanged(alloc: Global) -> Result<Schedule, AllocError> {
-    let mut start = berger(alloc, 4)?;
+fn exchanged(rt: &impl Abort, alloc: Global) -> Schedule {
+    let mut start = berger(alloc, 4).expect(rt, "a table");
     start.exchange_rounds(4, 5, TeamSet::below(4));
-    Ok(start)
+    start
 }
 
 /// The league begins there. Its games 1-4 and 2-3 of round 1 are kept, and a game that has left its round costs 10.
-fn given_league(alloc: Global) -> Option<League> {
-    let mut league = circular(alloc, 4).ok()?;
-    let start = exchanged(alloc).ok()?;
-    if start.teams() == league.teams() {
-        league.begin_at(start);
-        league.keep_round(0);
-    }
+fn given_league(rt: &impl Abort, alloc: Global) -> League {
+    let mut league = circular(alloc, 4).expect(rt, "a league");
+    begin_at(rt, &mut league, exchanged(rt, alloc));
+    league.keep_round(0);
     league.set_near(10);
-    Some(league)
+    league
 }
 
-fn given_board(alloc: Global) -> Result<Board, Fail>
-    ensures { IfOk result (λ b. b.history ≡ []) }
-{
-    let league = given_league(alloc).ok_or("a league")?;
-    Ok(Board::new(alloc, league, 12)?)
+/// Steps on a new board of that league.
+fn check_given(rt: &impl Abort, alloc: Global, steps: &[Step]) {
+    let league = given_league(rt, alloc);
+    check_steps(rt, new_board(rt, alloc, league, 12), steps);
 }
 
+/// Kept games begin pinned.
 const KEPT: &[Step] = &[
     See(Cost(28, 0, 0)),
     See(Best(0, 28)),
@@ -53,13 +50,7 @@ const KEPT: &[Step] = &[
     See(Round(1, 4, 1)),
 ];
 
-#[test]
-fn kept_games_begin_pinned(rt: HostRuntime) -> Result<(), Fail> {
-    check_steps(&rt, &mut given_board(rt.alloc())?, KEPT);
-    Ok(())
-}
-
-/// All four games of rounds 5 and 6 leave their rounds, and then 1-2 and 2-1 besides, of which one had left its own.
+/// Games away from their rounds cost their price: all four games of rounds 5 and 6 leave their rounds, and then 1-2 and 2-1 besides, of which one had left its own.
 const AWAY: &[Step] = &[
     Do(Rounds(5, 6, Soft(1, 30, 40))),
     See(Best(0, 28)),
@@ -71,12 +62,7 @@ const AWAY: &[Step] = &[
     See(Pinned(1, 4, true)),
 ];
 
-#[test]
-fn games_away_from_their_rounds_cost_their_price(rt: HostRuntime) -> Result<(), Fail> {
-    check_steps(&rt, &mut given_board(rt.alloc())?, AWAY);
-    Ok(())
-}
-
+/// A kept game is unpinned, moved and pinned again.
 const UNPINNED: &[Step] = &[
     Do(Unpin((1, 1, 4), Done(1, 28, 0))),
     See(Pinned(1, 4, false)),
@@ -94,7 +80,8 @@ const UNPINNED: &[Step] = &[
 ];
 
 #[test]
-fn a_kept_game_is_unpinned_moved_and_pinned_again(rt: HostRuntime) -> Result<(), Fail> {
-    check_steps(&rt, &mut given_board(rt.alloc())?, UNPINNED);
-    Ok(())
+fn games_of_a_given_start(rt: HostRuntime) {
+    for steps in [KEPT, AWAY, UNPINNED] {
+        check_given(&rt, rt.alloc(), steps);
+    }
 }

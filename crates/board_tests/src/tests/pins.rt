@@ -5,10 +5,10 @@ use crate::tests::questions::Asked;
 use crate::tests::steps::Act::{Ask, Homes, Pin, Rounds, Teams, Undo, Unpin};
 use crate::tests::steps::Sight::{Best, Pinned};
 use crate::tests::steps::Step::{self, Do, See};
-use crate::tests::steps::check_board;
+use crate::tests::steps::{Case, check_cases};
 use fixture_board::Why;
-use std::test::Fail;
 
+/// Pinned games keep their rounds.
 const ROUNDS_KEPT: &[Step] = &[
     Do(Pin((1, 1, 4), Done(1, 30, 0))),
     See(Pinned(1, 4, true)),
@@ -26,11 +26,7 @@ const ROUNDS_KEPT: &[Step] = &[
     See(Pinned(1, 4, false)),
 ];
 
-#[test]
-fn pinned_games_keep_their_rounds(rt: HostRuntime) -> Result<(), Fail> {
-    check_board(&rt, rt.alloc(), 1024, ROUNDS_KEPT)
-}
-
+/// A pin is for the version that there is.
 const OTHER_VERSIONS: &[Step] = &[
     Do(Ask(Asked::Pin(1, 0, 0, 3), No(0, Why::Ahead))),
     Do(Ask(Asked::Unpin(1, 0, 0, 3), No(0, Why::Ahead))),
@@ -41,11 +37,7 @@ const OTHER_VERSIONS: &[Step] = &[
     See(Pinned(1, 4, true)),
 ];
 
-#[test]
-fn a_pin_is_for_the_version_that_there_is(rt: HostRuntime) -> Result<(), Fail> {
-    check_board(&rt, rt.alloc(), 8, OTHER_VERSIONS)
-}
-
+/// Undo drops a pin.
 const PIN_UNDONE: &[Step] = &[
     Do(Undo(No(0, Why::NothingToUndo))),
     Do(Pin((1, 1, 4), Done(1, 30, 0))),
@@ -56,11 +48,7 @@ const PIN_UNDONE: &[Step] = &[
     Do(Ask(Asked::Undo(4), No(3, Why::Ahead))),
 ];
 
-#[test]
-fn undo_drops_a_pin(rt: HostRuntime) -> Result<(), Fail> {
-    check_board(&rt, rt.alloc(), 1024, PIN_UNDONE)
-}
-
+/// Undo takes a pin back that was dropped.
 const UNPIN_UNDONE: &[Step] = &[
     Do(Pin((1, 1, 4), Done(1, 30, 0))),
     Do(Unpin((1, 1, 4), Done(2, 30, 0))),
@@ -69,7 +57,14 @@ const UNPIN_UNDONE: &[Step] = &[
     Do(Rounds(1, 2, No(3, Why::Pinned))),
 ];
 
+const CASES: &[Case] = &[
+    (1024, ROUNDS_KEPT),
+    (8, OTHER_VERSIONS),
+    (1024, PIN_UNDONE),
+    (1024, UNPIN_UNDONE),
+];
+
 #[test]
-fn undo_takes_a_pin_back_that_was_dropped(rt: HostRuntime) -> Result<(), Fail> {
-    check_board(&rt, rt.alloc(), 1024, UNPIN_UNDONE)
+fn games_pinned_and_unpinned(rt: HostRuntime) {
+    check_cases(&rt, rt.alloc(), CASES);
 }

@@ -42,22 +42,9 @@ pub(crate) fn teams(i: u8, j: u8) -> Move {
     }
 }
 
-/// The move for this version, without a claim and without slack.
-pub(crate) fn at(version: u64, mv: Move) -> Proposal {
-    Proposal {
-        version,
-        mv,
-        claim: None,
-        slack: 0,
-    }
-}
-
-/// The move for this version, without a claim, however much worse it is.
-pub(crate) fn at_any_cost(version: u64, mv: Move) -> Proposal {
-    Proposal {
-        slack: u64::MAX,
-        ..at(version, mv)
-    }
+/// To make the move at this version, without a claim, however much worse it is.
+pub(crate) fn at_any_cost(version: u64, mv: Move) -> Ask {
+    propose(version, mv, None, u64::MAX)
 }
 
 pub(crate) fn propose(version: u64, mv: Move, claim: Option<u64>, slack: u64) -> Ask {
@@ -91,11 +78,6 @@ impl Asked {
     }
 }
 
-/// To make the move at this version, without a claim and without slack.
-pub(crate) fn to_shift(version: u64, mv: Move) -> Ask {
-    Ask::Shift(at(version, mv))
-}
-
 /// To pin a game of a round and teams that count from 0.
 pub(crate) fn pin_from_0(version: u64, round: u8, home: u8, away: u8) -> Ask {
     let game = game_from_0(round, home, away);
@@ -106,33 +88,6 @@ pub(crate) fn pin_from_0(version: u64, round: u8, home: u8, away: u8) -> Ask {
 pub(crate) fn unpin_from_0(version: u64, round: u8, home: u8, away: u8) -> Ask {
     let game = game_from_0(round, home, away);
     Ask::Unpin { version, game }
-}
-
-/// The move at the board's version, without a claim, however much worse it is.
-pub(crate) fn shift(board: &mut Board, mv: Move) -> Reply {
-    let version = board.version();
-    board.propose(0, at_any_cost(version, mv))
-}
-
-/// The reply that the move would get.
-pub(crate) fn would_shift(board: &mut Board, mv: Move) -> Reply {
-    let version = board.version();
-    board.would_answer(at_any_cost(version, mv))
-}
-
-pub(crate) fn pin(board: &mut Board, game: Game) -> Reply {
-    let version = board.version();
-    board.pin(0, version, game)
-}
-
-pub(crate) fn unpin(board: &mut Board, game: Game) -> Reply {
-    let version = board.version();
-    board.unpin(0, version, game)
-}
-
-pub(crate) fn undo(board: &mut Board) -> Reply {
-    let version = board.version();
-    board.undo(0, version)
 }
 
 /// Asks by the call that it stands for.

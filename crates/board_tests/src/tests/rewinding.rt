@@ -6,14 +6,13 @@ use crate::tests::steps::Sight::{
     Best, BestRound, Cost, Entry, NoBest, Pinned, Round, Travels, Version,
 };
 use crate::tests::steps::Step::{self, Do, See};
-use crate::tests::steps::{check_board, check_board_with};
+use crate::tests::steps::{Case, LeagueCase, check_cases, check_league_cases};
 use fixture_board::{Change, Why};
 use moves::Move;
-use std::test::Fail;
 
 const HOMES: Move = Move::Homes { i: 0, j: 1 };
 
-/// A pin, the best version, and more changes behind it.
+/// The best version comes back: a pin, the best version, and more changes behind it.
 const REWOUND: &[Step] = &[
     Do(Pin((1, 1, 4), Done(1, 30, 0))),
     Do(Undo(Done(2, 30, 0))),
@@ -44,11 +43,7 @@ const REWOUND: &[Step] = &[
     Do(Undo(No(6, Why::NothingToUndo))),
 ];
 
-#[test]
-fn the_best_version_comes_back(rt: HostRuntime) -> Result<(), Fail> {
-    check_board(&rt, rt.alloc(), 8, REWOUND)
-}
-
+/// The start comes back where it is best.
 const START_IS_BEST: &[Step] = &[
     Do(Rounds(2, 4, Done(1, 30, 4))),
     Do(RewindToBest),
@@ -58,11 +53,7 @@ const START_IS_BEST: &[Step] = &[
     See(Round(1, 2, 2)),
 ];
 
-#[test]
-fn the_start_comes_back_where_it_is_best(rt: HostRuntime) -> Result<(), Fail> {
-    check_board(&rt, rt.alloc(), 8, START_IS_BEST)
-}
-
+/// Without a best version all stays.
 const WITHOUT_BEST: &[Step] = &[
     Do(Pin((1, 1, 4), Done(1, 30, 2))),
     Do(RewindToBest),
@@ -72,7 +63,12 @@ const WITHOUT_BEST: &[Step] = &[
     See(Pinned(1, 4, true)),
 ];
 
+const CASES: &[Case] = &[(8, REWOUND), (8, START_IS_BEST)];
+
+const LEAGUE_CASES: &[LeagueCase] = &[(1, "\"at_most\":2", WITHOUT_BEST)];
+
 #[test]
-fn without_a_best_version_all_stays(rt: HostRuntime) -> Result<(), Fail> {
-    check_board_with(&rt, rt.alloc(), (1, "\"at_most\":2"), WITHOUT_BEST)
+fn boards_go_back_to_their_best(rt: HostRuntime) {
+    check_cases(&rt, rt.alloc(), CASES);
+    check_league_cases(&rt, rt.alloc(), LEAGUE_CASES);
 }

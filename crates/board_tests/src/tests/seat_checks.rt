@@ -1,17 +1,17 @@
 //! One assertion each on a shared board and a seat. A caller's proof knows no more of the seat after each than whose it is,
 //! which keeps that proof short.
 
-ghost use Rattle.std.specs.Prelude.{◌≡◌, IfOk};
+ghost use Rattle.std.specs.Prelude.{◌≡◌};
 
 use crate::tests::checks::check_same;
 use crate::tests::questions::ask_seat;
 use fixture_board::{Ask, Board, Reply, Seen};
 use fixtures::Schedule;
-use shared_board::{Seat, Shared, SplitFault};
+use shared_board::{Seat, Shared};
 use std::process::Abort;
 use std::sync::Wait;
 
-/// Asks through a seat. It has then seen the version that is answered, which is the front, and a refusal is no entry of it.
+/// Asks through a seat. It has then seen the version that is answered, which is the front.
 pub(crate) fn check_ask<R: Wait + Abort>(
     rt: &R,
     shared: &Shared,
@@ -22,42 +22,10 @@ pub(crate) fn check_ask<R: Wait + Abort>(
     requires { seat.old.table ≡ shared.now }
     ensures { seat.new.table ≡ shared.now }
 {
-    let before = seat.accepted();
     check_same(rt, &(ask, ask_seat(rt, shared, seat, ask)), &(ask, reply));
-    match reply {
-        Reply::Done { at, .. } => check_seen(rt, shared, seat, at, ask),
-        Reply::No { at, .. } => {
-            check_seen(rt, shared, seat, at, ask);
-            check_same(rt, &(ask, seat.accepted()), &(ask, before));
-        }
-    }
-}
-
-/// After it asked, the seat has seen this version, which is the front.
-fn check_seen(rt: &impl Abort, shared: &Shared, seat: &mut Seat, version: u64, ask: Ask)
-    requires { seat.old.table ≡ shared.now }
-    ensures { seat.new.table ≡ shared.now }
-{
-    check_same(rt, &(ask, seat.seen()), &(ask, version));
-    check_same(rt, &(ask, shared.front(seat)), &(ask, version));
-}
-
-/// The change is made, whatever it costs.
-pub(crate) fn check_done<R: Wait + Abort>(
-    rt: &R,
-    shared: &Shared,
-    seat: &mut Seat,
-    ask: Ask,
-    version: u64,
-)
-    requires { seat.old.table ≡ shared.now }
-    ensures { seat.new.table ≡ shared.now }
-{
-    let answer = ask_seat(rt, shared, seat, ask);
-    let Reply::Done { at, .. } = answer else {
-        panic!(rt; "{ask:?} is granted");
-    };
-    check_same(rt, &(ask, at), &(ask, version));
+    let (Reply::Done { at, .. } | Reply::No { at, .. }) = reply;
+    let seen = [seat.seen(), shared.front(seat)];
+    check_same(rt, &(ask, seen), &(ask, [at, at]));
 }
 
 pub(crate) fn check_look<R: Wait + Abort>(
@@ -90,15 +58,9 @@ pub(crate) fn check_total(rt: &impl Abort, shared: &Shared, seat: &mut Seat, bes
     check_same(rt, &found, &best);
 }
 
-/// How many numbers the seat holds, how many entries it has seen, and how many of them are its own.
-pub(crate) fn check_seat(rt: &impl Abort, seat: &Seat, held: u32, seen: u64, accepted: u64) {
-    check_same(rt, &seat.held(), &held);
-    check_same(rt, &seat.seen(), &seen);
-    check_same(rt, &seat.accepted(), &accepted);
-}
-
-pub(crate) fn check_held(rt: &impl Abort, seat: &Seat, held: u32) {
-    check_same(rt, &seat.held(), &held);
+/// How many numbers the seat holds, and how many entries are its own.
+pub(crate) fn check_held(rt: &impl Abort, seat: &Seat, held: u32, accepted: u64) {
+    check_same(rt, &(seat.held(), seat.accepted()), &(held, accepted));
 }
 
 pub(crate) fn check_number(rt: &impl Abort, seat: &Seat, number: u32) {
@@ -106,12 +68,12 @@ pub(crate) fn check_number(rt: &impl Abort, seat: &Seat, number: u32) {
 }
 
 /// One more seat.
-pub(crate) fn split<R: Wait>(rt: &R, shared: &Shared, seat: &mut Seat) -> Result<Seat, SplitFault>
+pub(crate) fn split<R: Wait + Abort>(rt: &R, shared: &Shared, seat: &mut Seat) -> Seat
     requires { seat.old.table ≡ shared.now }
     ensures same { seat.new.table ≡ shared.now }
-    ensures new { IfOk result (λ s. s.table ≡ shared.now) }
+    ensures new { result.table ≡ shared.now }
 {
-    shared.split(rt, seat)
+    shared.split(rt, seat).expect(rt, "a seat")
 }
 
 /// The first seat takes the other in.

@@ -1,28 +1,26 @@
 //! Steps of two seats of a shared board, one after the other, in tables.
 
-ghost use Rattle.std.specs.Prelude.{◌≡◌};
+ghost use Rattle.std.specs.Prelude.{◌≡◌, []};
 
 use crate::tests::answers::{Answer, seen};
-use crate::tests::boards::four_with_room;
+use crate::tests::boards::shared;
 use crate::tests::checks::{check_entry, check_same, check_version};
 use crate::tests::questions::Asked;
 use crate::tests::seat_checks::{
-    absorb, check_ask, check_done, check_front, check_look, check_number, check_seat, check_total,
-    close, split,
+    absorb, check_ask, check_front, check_held, check_look, check_number, check_total, close, split,
 };
 use fixture_board::{Board, Change};
-use fixtures::Schedule;
+use fixtures::{Schedule, berger_fide};
 use shared_board::{Seat, Shared};
 use std::alloc::Global;
 use std::process::Abort;
 use std::sync::Wait;
-use std::test::Fail;
 
 /// Two seats of a shared board.
 #[derive(Drop)]
-pub(crate) struct Pair {
-    pub(crate) first: Seat,
-    pub(crate) second: Seat,
+struct Pair {
+    first: Seat,
+    second: Seat,
 }
 
 #[derive(Clone, Copy)]
@@ -35,8 +33,6 @@ pub(crate) enum Who {
 #[derive(Clone, Copy)]
 pub(crate) enum SeatStep {
     Ask(Asked, Answer),
-    /// A change that is made as this version, whatever it costs.
-    Change(Asked, u64),
     Front(u64),
     /// The least total.
     Total(Option<u64>),
@@ -61,7 +57,6 @@ fn check_seat_step<R: Wait + Abort>(
         SeatStep::Ask(asked, answer) => {
             check_ask(rt, shared, seat, asked.ask(), answer.reply());
         }
-        SeatStep::Change(asked, version) => check_done(rt, shared, seat, asked.ask(), version),
         SeatStep::Front(front) => check_front(rt, shared, seat, front),
         SeatStep::Total(best) => check_total(rt, shared, seat, best),
         SeatStep::Look(version, travel) => {
@@ -73,22 +68,7 @@ fn check_seat_step<R: Wait + Abort>(
 }
 
 /// The copy is one to look into.
-pub(crate) fn check_seat_steps<R: Wait + Abort>(
-    rt: &R,
-    shared: &Shared,
-    seat: &mut Seat,
-    copy: &mut Schedule,
-    steps: &[SeatStep],
-)
-    requires { seat.old.table ≡ shared.now }
-    ensures { seat.new.table ≡ shared.now }
-{
-    for &step in steps {
-        check_seat_step(rt, shared, seat, copy, step);
-    }
-}
-
-pub(crate) fn check_seats<R: Wait + Abort>(
+fn check_seats<R: Wait + Abort>(
     rt: &R,
     shared: &Shared,
     pair: &mut Pair,
@@ -108,42 +88,50 @@ pub(crate) fn check_seats<R: Wait + Abort>(
     }
 }
 
-/// The first seat takes the second in, and then holds so many numbers. It has seen and accounts for these entries, which are
-/// all that the board has when it is closed.
-pub(crate) fn check_end<R: Wait + Abort>(
-    rt: &R,
-    shared: Shared,
-    pair: Pair,
-    held: u32,
-    entries: &[(u32, Change)],
-)
+/// The first seat takes the second in, and then holds both numbers. It accounts for these entries, which are all that the board has
+/// when it is closed.
+fn check_end<R: Wait + Abort>(rt: &R, shared: Shared, pair: Pair, entries: &[(u32, Change)])
     requires { (pair.first.table ≡ shared) × (pair.second.table ≡ shared) }
 {
     let Pair { mut first, second } = pair;
     absorb(&shared, &mut first, second);
-    let count = entries.len() as u64;
-    check_seat(rt, &first, held, count, count);
-    check_history(rt, &close(rt, shared, first, true), entries);
+    check_held(rt, &first, 2, entries.len() as u64);
+    check_closed(rt, shared, first, true, entries);
 }
 
-/// Two seats of a new shared board with room for so many entries, to its end with these.
+/// The board that the seat closes has just these entries. It is whole, or not.
+pub(crate) fn check_closed<R: Wait + Abort>(
+    rt: &R,
+    shared: Shared,
+    seat: Seat,
+    is_whole: bool,
+    entries: &[(u32, Change)],
+)
+    requires { seat.table ≡ shared }
+{
+    check_history(rt, &close(rt, shared, seat, is_whole), entries);
+}
+
+/// Two seats of a board of four teams, to its end with these entries.
 pub(crate) fn check_pair<R: Wait + Abort>(
     rt: &R,
     alloc: Global,
-    room: u32,
+    board: Board,
     steps: &[(Who, SeatStep)],
     entries: &[(u32, Change)],
-) -> Result<(), Fail> {
-    let (shared, mut first, mut copy) = four_with_room(alloc, room)?;
-    let second = split(rt, &shared, &mut first)?;
+)
+    requires { board.history ≡ [] }
+{
+    let mut copy = berger_fide(alloc, 4).expect(rt, "a copy");
+    let (shared, mut first) = shared(rt, alloc, board);
+    let second = split(rt, &shared, &mut first);
     let mut pair = Pair { first, second };
     check_seats(rt, &shared, &mut pair, &mut copy, steps);
-    check_end(rt, shared, pair, 2, entries);
-    Ok(())
+    check_end(rt, shared, pair, entries);
 }
 
 /// Just these entries, each by its caller.
-pub(crate) fn check_history(rt: &impl Abort, board: &Board, entries: &[(u32, Change)]) {
+fn check_history(rt: &impl Abort, board: &Board, entries: &[(u32, Change)]) {
     check_version(rt, board, entries.len() as u64);
     for (i, &(caller, change)) in entries.iter().enumerate() {
         check_entry(rt, board, i as u64, caller, change);

@@ -1,29 +1,32 @@
-//! Seats of a shared board, of one thread.
+//! Seats of a shared board, of one thread. The answers were worked out by hand.
 
 ghost use Rattle.std.specs.Prelude.{◌≡◌};
 
 use crate::tests::answers::Answer::{Done, No};
-use crate::tests::answers::seen;
-use crate::tests::boards::{board_with, four};
-use crate::tests::checks::{check_pinned, check_same};
-use crate::tests::questions::{Asked, to_shift};
-use crate::tests::seat_checks::{
-    absorb, check_ask, check_held, check_look, check_number, check_seat, close, split,
-};
-use crate::tests::seat_steps::SeatStep::{self, Ask, Change as Make, Front, Look, Number, Total};
+use crate::tests::boards::{board_of, board_with, shared};
+use crate::tests::checks::check_same;
+use crate::tests::questions::{Asked, propose};
+use crate::tests::seat_checks::{absorb, check_ask, check_front, check_held, split};
+use crate::tests::seat_steps::SeatStep::{self, Accepted, Ask, Front, Look, Number, Total};
 use crate::tests::seat_steps::Who::{self, First, Second};
-use crate::tests::seat_steps::{Pair, check_end, check_pair, check_seat_steps, check_seats};
+use crate::tests::seat_steps::{check_closed, check_pair};
 use fixture_board::{Change, Why};
+use fixtures::Game;
 use moves::Move;
 use shared_board::{Seat, Shared, SplitFault};
 use std::process::Abort;
 use std::sync::Wait;
-use std::test::Fail;
 
 const TEAMS: Move = Move::Teams { i: 0, j: 1 };
 
 const HOMES: Move = Move::Homes { i: 0, j: 1 };
 
+const ROUNDS: Move = Move::Rounds { k: 1, l: 3 };
+
+/// A move of no two teams.
+const SAME: Move = Move::Homes { i: 0, j: 0 };
+
+/// Two seats see each other's changes.
 const EACH_A_CHANGE: &[(Who, SeatStep)] = &[
     (First, Number(0)),
     (Second, Number(1)),
@@ -33,114 +36,129 @@ const EACH_A_CHANGE: &[(Who, SeatStep)] = &[
     (First, Total(Some(26))),
     (Second, Total(Some(26))),
     (Second, Look(1, 26)),
-    (Second, Make(Asked::Shift(0, HOMES, None, 0), 2)),
+    (Second, Ask(Asked::Shift(0, HOMES, None, 0), Done(2, 26, 0))),
     (First, Front(2)),
 ];
 
 const EACH_ENTRY: &[(u32, Change)] = &[(0, Change::Shift(TEAMS)), (1, Change::Shift(HOMES))];
 
-#[test]
-fn two_seats_see_each_others_changes(rt: HostRuntime) -> Result<(), Fail> {
-    check_pair(&rt, rt.alloc(), 8, EACH_A_CHANGE, EACH_ENTRY)
-}
-
-/// Of the second and the third seat.
-const LATER_SEATS: &[(Who, SeatStep)] = &[
-    (First, Number(1)),
-    (Second, Number(2)),
-    (Second, Ask(Asked::Shift(0, HOMES, None, 0), Done(1, 26, 0))),
-    (First, Ask(Asked::Pin(0, 0, 0, 3), No(1, Why::Old))),
-    (First, Ask(Asked::Undo(1), Done(2, 30, 0))),
-];
-
-const LATER_ENTRIES: &[(u32, Change)] = &[(2, Change::Shift(HOMES)), (1, Change::Undo)];
-
-#[test]
-fn three_seats_each_split_from_the_last(rt: HostRuntime) -> Result<(), Fail> {
-    let (shared, mut a, mut copy) = four(rt.alloc())?;
-    let mut b = split(&rt, &shared, &mut a)?;
-    let c = split(&rt, &shared, &mut b)?;
-    check_number(&rt, &a, 0);
-    let mut later = Pair {
-        first: b,
-        second: c,
-    };
-    check_seats(&rt, &shared, &mut later, &mut copy, LATER_SEATS);
-    let Pair {
-        first: second,
-        second: third,
-    } = later;
-    absorb(&shared, &mut a, third);
-    check_end(&rt, shared, Pair { first: a, second }, 3, LATER_ENTRIES);
-    Ok(())
-}
-
-#[test]
-fn a_new_seat_has_seen_what_the_old_one_has(rt: HostRuntime) -> Result<(), Fail> {
-    let (shared, mut a, _copy) = four(rt.alloc())?;
-    let done = Done(1, 26, 0).reply();
-    check_ask(&rt, &shared, &mut a, to_shift(0, TEAMS), done);
-    let b = split(&rt, &shared, &mut a)?;
-    check_seat(&rt, &b, 1, 1, 0);
-    Ok(())
-}
-
-const PINNED_AND_UNPINNED: &[(Who, SeatStep)] = &[
+/// Two seats are answered the first reason.
+const FIRST_REASONS: &[(Who, SeatStep)] = &[
     (First, Ask(Asked::Pin(0, 0, 0, 3), Done(1, 30, 0))),
-    (Second, Ask(Asked::Unpin(1, 0, 0, 3), Done(2, 30, 0))),
+    (
+        Second,
+        Ask(
+            Asked::Shift(1, Move::Rounds { k: 0, l: 1 }, Some(0), 0),
+            No(1, Why::Pinned),
+        ),
+    ),
+    (
+        First,
+        Ask(Asked::Shift(1, ROUNDS, Some(0), 0), No(1, Why::WrongClaim)),
+    ),
+    (
+        Second,
+        Ask(Asked::Shift(1, ROUNDS, Some(430), 399), No(1, Why::Worse)),
+    ),
+    (
+        First,
+        Ask(Asked::Shift(1, ROUNDS, Some(430), 400), Done(2, 30, 4)),
+    ),
+    (Second, Ask(Asked::Undo(1), No(2, Why::Old))),
+    (
+        First,
+        Ask(Asked::Shift(u64::MAX, SAME, None, 0), No(2, Why::Ahead)),
+    ),
+    (Second, Ask(Asked::Pin(2, 6, 0, 3), No(2, Why::BadGame))),
+    (First, Ask(Asked::Pin(2, 0, 0, 0), No(2, Why::BadGame))),
+    (
+        Second,
+        Ask(Asked::Shift(2, ROUNDS, None, u64::MAX), Done(3, 30, 0)),
+    ),
+    (First, Look(3, 30)),
+    (Second, Ask(Asked::Unpin(3, 0, 0, 3), Done(4, 30, 0))),
+    (First, Accepted(2)),
+    (Second, Accepted(2)),
+];
+
+const PINNED: Game = Game {
+    round: 0,
+    home: 0,
+    away: 3,
+};
+
+const ENTRIES: &[(u32, Change)] = &[
+    (0, Change::Pin(PINNED)),
+    (0, Change::Shift(ROUNDS)),
+    (1, Change::Shift(ROUNDS)),
+    (1, Change::Unpin(PINNED)),
+];
+
+/// A shared board without room is full.
+const WITHOUT_ROOM: &[(Who, SeatStep)] = &[
+    (
+        First,
+        Ask(Asked::Shift(1, SAME, None, 0), No(0, Why::Ahead)),
+    ),
+    (
+        Second,
+        Ask(Asked::Shift(0, SAME, None, 0), No(0, Why::Full)),
+    ),
+    (First, Ask(Asked::Pin(0, 0, 0, 0), No(0, Why::Full))),
+    (Second, Ask(Asked::Undo(u64::MAX), No(0, Why::Ahead))),
+    (First, Ask(Asked::Undo(0), No(0, Why::Full))),
+    (First, Total(Some(30))),
+];
+
+/// The rooms of boards, the steps of two seats, and the entries in the end.
+const PAIRS: &[(u32, &[(Who, SeatStep)], &[(u32, Change)])] = &[
+    (8, EACH_A_CHANGE, EACH_ENTRY),
+    (8, FIRST_REASONS, ENTRIES),
+    (0, WITHOUT_ROOM, &[]),
 ];
 
 #[test]
-fn a_pinned_game_is_unpinned_by_another_seat(rt: HostRuntime) -> Result<(), Fail> {
-    let (shared, mut first, mut copy) = four(rt.alloc())?;
-    let second = split(&rt, &shared, &mut first)?;
-    let mut pair = Pair { first, second };
-    check_seats(&rt, &shared, &mut pair, &mut copy, PINNED_AND_UNPINNED);
-    let Pair { first, second: _ } = pair;
-    let board = close(&rt, shared, first, false);
-    check_pinned(&rt, &board, 1, 4, false);
-    Ok(())
+fn two_seats_of_one_board(rt: HostRuntime) {
+    for &(room, steps, entries) in PAIRS {
+        let board = board_of(&rt, rt.alloc(), 4, room);
+        check_pair(&rt, rt.alloc(), board, steps, entries);
+    }
 }
+
+const LAST_ROUNDS: Move = Move::Rounds { k: 4, l: 5 };
 
 /// Rounds 5 and 6 exchanged, and that undone.
-const BEST_IN_BETWEEN: &[SeatStep] = &[
-    Total(None),
-    Front(0),
-    Ask(
-        Asked::Shift(0, Move::Rounds { k: 4, l: 5 }, None, 0),
-        Done(1, 28, 0),
+const BEST_IN_BETWEEN: &[(Who, SeatStep)] = &[
+    (First, Total(None)),
+    (First, Front(0)),
+    (
+        First,
+        Ask(Asked::Shift(0, LAST_ROUNDS, None, 0), Done(1, 28, 0)),
     ),
-    Total(Some(28)),
-    Front(1),
-    Make(Asked::Undo(1), 2),
-    Total(Some(28)),
-    Front(2),
+    (Second, Total(Some(28))),
+    (Second, Front(1)),
+    (Second, Ask(Asked::Undo(1), Done(2, 30, 2))),
+    (First, Total(Some(28))),
+    (First, Front(2)),
 ];
 
+const UNDONE: &[(u32, Change)] = &[(0, Change::Shift(LAST_ROUNDS)), (1, Change::Undo)];
+
 #[test]
-fn best_and_front_are_read_without_a_turn(rt: HostRuntime) -> Result<(), Fail> {
-    let board = board_with(rt.alloc(), 1, "\"at_most\":2")?;
-    let mut copy = board.schedule().duplicate(rt.alloc())?;
-    let (shared, mut a) = Shared::new(rt.alloc(), board)?;
-    check_seat_steps(&rt, &shared, &mut a, &mut copy, BEST_IN_BETWEEN);
-    Ok(())
+fn best_and_front_are_read_without_a_turn(rt: HostRuntime) {
+    let board = board_with(&rt, rt.alloc(), 1, "\"at_most\":2");
+    check_pair(&rt, rt.alloc(), board, BEST_IN_BETWEEN, UNDONE);
 }
 
 /// Splits as often from a seat, which takes each new one in.
-fn draw_numbers<R: Wait>(
-    rt: &R,
-    shared: &Shared,
-    seat: &mut Seat,
-    times: u64,
-) -> Result<(), SplitFault>
+fn draw_numbers<R: Wait + Abort>(rt: &R, shared: &Shared, seat: &mut Seat, times: u64)
     requires { seat.old.table ≡ shared.now }
     ensures { seat.new.table ≡ shared.now }
 {
     for _ in 0..times {
-        let other = shared.split(rt, seat)?;
-        shared.absorb(seat, other);
+        let other = split(rt, shared, seat);
+        absorb(shared, seat, other);
     }
-    Ok(())
 }
 
 fn check_refused_split<R: Wait + Abort>(rt: &R, shared: &Shared, seat: &mut Seat)
@@ -152,25 +170,34 @@ fn check_refused_split<R: Wait + Abort>(rt: &R, shared: &Shared, seat: &mut Seat
 }
 
 #[test]
-fn a_refused_split_draws_no_number(rt: HostRuntime) -> Result<(), Fail> {
-    let (shared, mut a, mut copy) = four(rt.alloc())?;
-    let mut b = split(&rt, &shared, &mut a)?;
-    draw_numbers(&rt, &shared, &mut a, 62)?;
-    check_held(&rt, &a, 63);
-    check_refused_split(&rt, &shared, &mut a);
-    check_refused_split(&rt, &shared, &mut b);
-    let done = Done(1, 26, 0).reply();
-    check_ask(&rt, &shared, &mut a, to_shift(0, HOMES), done);
-    check_look(&rt, &shared, &mut b, &mut copy, &seen(1, 26));
-    absorb(&shared, &mut a, b);
-    check_held(&rt, &a, 64);
-    close(&rt, shared, a, true);
-    Ok(())
+fn a_refused_split_draws_no_number(rt: HostRuntime) {
+    let (shared, mut seat) = shared(&rt, rt.alloc(), board_of(&rt, rt.alloc(), 4, 8));
+    draw_numbers(&rt, &shared, &mut seat, 63);
+    check_refused_split(&rt, &shared, &mut seat);
+    check_held(&rt, &seat, 64, 0);
+    check_closed(&rt, shared, seat, true, &[]);
+}
+
+/// One more seat changes the board, and is dropped.
+fn change_and_drop<R: Wait + Abort>(rt: &R, shared: &Shared, seat: &mut Seat)
+    requires { seat.old.table ≡ shared.now }
+    ensures { seat.new.table ≡ shared.now }
+{
+    let mut other = split(rt, shared, seat);
+    let homes = propose(0, HOMES, Some(26), 0);
+    check_ask(rt, shared, &mut other, homes, Done(1, 26, 0).reply());
 }
 
 #[test]
-fn the_fault_of_a_split_is_told_in_a_line(rt: HostRuntime) -> Result<(), Fail> {
-    let text = format!(in rt.alloc(); "{}", SplitFault::TooManySeats)?;
+fn a_dropped_seats_change_stands_and_the_board_is_not_whole(rt: HostRuntime) {
+    let (shared, mut seat) = shared(&rt, rt.alloc(), board_of(&rt, rt.alloc(), 4, 8));
+    change_and_drop(&rt, &shared, &mut seat);
+    check_front(&rt, &shared, &mut seat, 1);
+    check_closed(&rt, shared, seat, false, &[(1, Change::Shift(HOMES))]);
+}
+
+#[test]
+fn the_fault_of_a_split_is_told_in_a_line(rt: HostRuntime) {
+    let text = format!(in rt.alloc(); "{}", SplitFault::TooManySeats).expect(&rt, "a text");
     check_same(&rt, &text.as_str(), &"64 seats were given out");
-    Ok(())
 }

@@ -3,6 +3,7 @@
 
 ghost use Rattle.std.specs.Prelude.{◌<◌, IfSome};
 
+use crate::tests::boards::new_board;
 use crate::tests::checks::check_same;
 use crate::tests::drawn_asks::drawn_ask;
 use crate::tests::drawn_leagues::drawn_league;
@@ -10,7 +11,6 @@ use fixture_board::{Board, Reply, Why};
 use league::League;
 use std::alloc::Global;
 use std::process::Abort;
-use std::test::Fail;
 
 /// The teams, the price, the kept games; what came of 300 asked changes by `column`; travel, hard and soft in the end; the best total
 /// and its version; and the sums of travel, hard and soft after each change.
@@ -162,24 +162,26 @@ fn add_end(board: &Board, row: &mut Row) {
     }
 }
 
-/// The row of a drawn board of so many teams.
-fn row_of(rt: &impl Abort, alloc: Global, mut state: u64, teams: u8) -> Result<Row, Fail> {
-    let league = drawn_league(alloc, &mut state, teams)?;
-    let mut board = Board::new(alloc, league, 4096)?;
+/// The row of a board after 300 drawn questions.
+fn asked(rt: &impl Abort, board: &mut Board, state: &mut u64) -> Row {
     let mut row = [0; 21];
     for _ in 0..300 {
-        ask(rt, &mut board, &mut state, &mut row);
+        ask(rt, board, state, &mut row);
     }
-    add_end(&board, &mut row);
-    Ok(row)
+    add_end(board, &mut row);
+    row
+}
+
+/// The row of a drawn board of so many teams.
+fn row_of(rt: &impl Abort, alloc: Global, mut state: u64, teams: u8) -> Row {
+    let league = drawn_league(rt, alloc, &mut state, teams);
+    asked(rt, &mut new_board(rt, alloc, league, 4096), &mut state)
 }
 
 #[test]
-fn drawn_boards_cost_what_a_program_written_apart_counts(rt: HostRuntime) -> Result<(), Fail> {
+fn drawn_boards_cost_what_a_program_written_apart_counts(rt: HostRuntime) {
     for (number, wanted) in ROWS.iter().enumerate() {
-        let state = 1000 + number as u64;
-        let found = row_of(&rt, rt.alloc(), state, wanted[0] as u8)?;
+        let found = row_of(&rt, rt.alloc(), 1000 + number as u64, wanted[0] as u8);
         check_same(&rt, &(number, found), &(number, *wanted));
     }
-    Ok(())
 }

@@ -1,19 +1,16 @@
 //! Steps with a board and looks at it, one after the other, in tables. A table costs a proof nothing.
 
-use crate::tests::answers::{Answer, best};
-use crate::tests::boards::{board, board_with};
+use crate::tests::answers::{Answer, best, cost};
+use crate::tests::boards::{board_of, board_with};
 use crate::tests::checks::{
-    check_answer, check_ask, check_best, check_best_round, check_cost, check_entry,
-    check_no_best_schedule, check_pin, check_pinned, check_round, check_same, check_shift,
-    check_travels, check_undo, check_unpin, check_version,
+    check_ask, check_best, check_best_round, check_cost, check_entry, check_no_best_schedule,
+    check_pinned, check_round, check_same, check_travels, check_version,
 };
-use crate::tests::questions::{Asked, game, homes, rounds, teams};
-use costs::Cost;
-use fixture_board::{Board, Change};
+use crate::tests::questions::{Asked, at_any_cost, game, homes, rounds, teams};
+use fixture_board::{Ask, Board, Change};
 use moves::Move;
 use std::alloc::Global;
 use std::process::Abort;
-use std::test::Fail;
 
 /// Something that is asked, and its answer.
 ///
@@ -21,12 +18,10 @@ use std::test::Fail;
 /// and rounds count from 1.
 #[derive(Clone, Copy)]
 pub(crate) enum Act {
-    /// By a call of its own, at a version.
+    /// At a version.
     Ask(Asked, Answer),
     /// A question as this caller.
     AskBy(u32, Asked, Answer),
-    /// By the call for all, at a version.
-    Answer(Asked, Answer),
     /// A move, in numbers from 0.
     Shift(Move, Answer),
     /// Homes of these two teams exchanged.
@@ -71,39 +66,41 @@ pub(crate) enum Step {
     See(Sight),
 }
 
+impl Act {
+    /// Caller, question and answer, if something is asked.
+    fn question(self, version: u64) -> Option<(u32, Ask, Answer)> {
+        Some(match self {
+            Act::Ask(asked, answer) => (0, asked.ask(), answer),
+            Act::AskBy(by, asked, answer) => (by, asked.ask(), answer),
+            Act::Shift(mv, answer) => (0, at_any_cost(version, mv), answer),
+            Act::Homes(i, j, answer) => (0, at_any_cost(version, homes(i, j)), answer),
+            Act::Rounds(k, l, answer) => (0, at_any_cost(version, rounds(k, l)), answer),
+            Act::Teams(i, j, answer) => (0, at_any_cost(version, teams(i, j)), answer),
+            Act::Pin((round, home, away), answer) => {
+                let game = game(round, home, away);
+                (0, Ask::Pin { version, game }, answer)
+            }
+            Act::Unpin((round, home, away), answer) => {
+                let game = game(round, home, away);
+                (0, Ask::Unpin { version, game }, answer)
+            }
+            Act::Undo(answer) => (0, Ask::Undo { version }, answer),
+            Act::RewindToBest => return None,
+        })
+    }
+}
+
 fn check_act(rt: &impl Abort, board: &mut Board, act: Act) {
-    match act {
-        Act::Ask(asked, answer) => check_ask(rt, board, 0, asked.ask(), answer.reply()),
-        Act::AskBy(by, asked, answer) => check_ask(rt, board, by, asked.ask(), answer.reply()),
-        Act::Answer(asked, answer) => check_answer(rt, board, asked.ask(), answer.reply()),
-        Act::Shift(mv, answer) => check_shift(rt, board, mv, answer.reply()),
-        Act::Homes(i, j, answer) => check_shift(rt, board, homes(i, j), answer.reply()),
-        Act::Rounds(k, l, answer) => check_shift(rt, board, rounds(k, l), answer.reply()),
-        Act::Teams(i, j, answer) => check_shift(rt, board, teams(i, j), answer.reply()),
-        Act::Pin((round, home, away), answer) => {
-            check_pin(rt, board, game(round, home, away), answer.reply());
-        }
-        Act::Unpin((round, home, away), answer) => {
-            check_unpin(rt, board, game(round, home, away), answer.reply());
-        }
-        Act::Undo(answer) => check_undo(rt, board, answer.reply()),
-        Act::RewindToBest => board.rewind_to_best(),
+    match act.question(board.version()) {
+        Some((caller, ask, answer)) => check_ask(rt, board, caller, ask, answer.reply()),
+        None => board.rewind_to_best(),
     }
 }
 
 fn check_sight(rt: &impl Abort, board: &Board, sight: Sight) {
     match sight {
         Sight::Version(version) => check_version(rt, board, version),
-        Sight::Cost(travel, hard, soft) => check_cost(
-            rt,
-            board,
-            Cost {
-                travel,
-                hard,
-                of_rules: 0,
-                soft,
-            },
-        ),
+        Sight::Cost(travel, hard, soft) => check_cost(rt, board, cost(travel, hard, soft)),
         Sight::Best(at, total) => check_best(rt, board, best(at, total)),
         Sight::NoBest => check_best(rt, board, None),
         Sight::NoBestSchedule => check_no_best_schedule(rt, board),
@@ -116,33 +113,41 @@ fn check_sight(rt: &impl Abort, board: &Board, sight: Sight) {
     }
 }
 
-pub(crate) fn check_steps(rt: &impl Abort, board: &mut Board, steps: &[Step]) {
-    for &step in steps {
-        match step {
-            Step::Do(act) => check_act(rt, board, act),
-            Step::See(sight) => check_sight(rt, board, sight),
-        }
+fn check_step(rt: &impl Abort, board: &mut Board, step: Step) {
+    match step {
+        Step::Do(act) => check_act(rt, board, act),
+        Step::See(sight) => check_sight(rt, board, sight),
     }
 }
 
-/// On a new board with room for so many entries.
-pub(crate) fn check_board(
-    rt: &impl Abort,
-    alloc: Global,
-    room: u32,
-    steps: &[Step],
-) -> Result<(), Fail> {
-    check_steps(rt, &mut board(alloc, room)?, steps);
-    Ok(())
+pub(crate) fn check_steps(rt: &impl Abort, mut board: Board, steps: &[Step]) {
+    for &step in steps {
+        check_step(rt, &mut board, step);
+    }
 }
 
-/// On a new board by a league's text in this format with further members.
-pub(crate) fn check_board_with(
-    rt: &impl Abort,
-    alloc: Global,
-    (format, members): (u8, &str),
-    steps: &[Step],
-) -> Result<(), Fail> {
-    check_steps(rt, &mut board_with(alloc, format, members)?, steps);
-    Ok(())
+/// Steps on a new board of four teams with room for so many entries.
+pub(crate) type Case = (u32, &'static [Step]);
+
+fn check_case(rt: &impl Abort, alloc: Global, (room, steps): Case) {
+    check_steps(rt, board_of(rt, alloc, 4, room), steps);
+}
+
+pub(crate) fn check_cases(rt: &impl Abort, alloc: Global, cases: &[Case]) {
+    for &case in cases {
+        check_case(rt, alloc, case);
+    }
+}
+
+/// Steps on a new board by a league's text in this format with further members.
+pub(crate) type LeagueCase = (u8, &'static str, &'static [Step]);
+
+fn check_league_case(rt: &impl Abort, alloc: Global, (format, members, steps): LeagueCase) {
+    check_steps(rt, board_with(rt, alloc, format, members), steps);
+}
+
+pub(crate) fn check_league_cases(rt: &impl Abort, alloc: Global, cases: &[LeagueCase]) {
+    for &case in cases {
+        check_league_case(rt, alloc, case);
+    }
 }

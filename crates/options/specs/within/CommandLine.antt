@@ -12,7 +12,7 @@ use Rattle.options.specs.declared.command_parts.CommandParts.{CommandParts}
 use Rattle.options.specs.declared.default_args.DefaultArg.{DefaultArg}
 use Rattle.options.specs.declared.number_args.NumberArg.{NumberArg}
 use Rattle.options.specs.CommandLine.{OptionForm, CommandForm, app_of_command, commands, flag, lettered, number_option, repeated, rule_of, text_option, word}
-use Rattle.options.specs.CommandLine.{improve_command, league_command, play_command, report_command, search_command, start_command}
+use Rattle.options.specs.CommandLine.{bound_command, improve_command, league_command, play_command, report_command, search_command, start_command}
 
 -- an option as the program has it
 abbrev pub form_of : NumberArg → OptionForm
@@ -58,7 +58,8 @@ form_named name = if bytes_eq name (codes "play") then play_command
     else (if bytes_eq name (codes "improve") then improve_command
     else (if bytes_eq name (codes "search") then search_command
     else (if bytes_eq name (codes "report") then report_command
-    else (if bytes_eq name (codes "league") then league_command else start_command))))
+    else (if bytes_eq name (codes "league") then league_command
+    else (if bytes_eq name (codes "bound") then bound_command else start_command)))))
 
 -- the program with the command of this name too
 abbrev pub with_named : App → Text → App

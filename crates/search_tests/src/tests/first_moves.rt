@@ -28,13 +28,6 @@ const OF_FIRST: &[Move] = &[
     Move::Homes { i: 1, j: 0 },
 ];
 
-/// The expected moves are those of `scripts/oracle worker-steps`, a program written apart from the definitions of PCG-XSH-RR 64/32
-/// (O'Neill 2014) and of Canon's method.
-#[test]
-fn first_moves_of_the_first_worker(rt: HostRuntime) {
-    check_moves(&rt, 1, 0, 4, OF_FIRST);
-}
-
 const OF_LAST: &[Move] = &[
     Move::PartTeams {
         i: 36,
@@ -51,12 +44,6 @@ const OF_LAST: &[Move] = &[
     },
 ];
 
-/// From the same program, as the next.
-#[test]
-fn first_moves_of_the_last_worker(rt: HostRuntime) {
-    check_moves(&rt, 2026, 15, 40, OF_LAST);
-}
-
 const OF_GREATEST_SEED: &[Move] = &[
     Move::PartTeams { i: 0, j: 2, k: 9 },
     Move::Homes { i: 5, j: 6 },
@@ -65,7 +52,11 @@ const OF_GREATEST_SEED: &[Move] = &[
     Move::PartTeams { i: 9, j: 8, k: 12 },
 ];
 
+/// The expected moves are those of `scripts/oracle worker-steps`, a program written apart from the definitions of PCG-XSH-RR 64/32
+/// (O'Neill 2014) and of Canon's method.
 #[test]
-fn first_moves_of_the_greatest_seed(rt: HostRuntime) {
+fn first_moves_of_workers(rt: HostRuntime) {
+    check_moves(&rt, 1, 0, 4, OF_FIRST);
+    check_moves(&rt, 2026, 15, 40, OF_LAST);
     check_moves(&rt, u64::MAX, 7, 10, OF_GREATEST_SEED);
 }

@@ -1,12 +1,11 @@
 //! Runs on boards of leagues in a circle.
 
-ghost use Rattle.std.specs.Prelude.{◌≡◌, length, IfOk};
-
-use crate::tests::boards::board;
+use crate::tests::boards::{board, circle, new_board};
 use draws::{Gate, RunContext};
 use league::circular;
 use search::{Outcome, SearchPlan, run, run_with};
 use std::alloc::Global;
+use std::process::Abort;
 use std::sync::Wait;
 use std::test::Fail;
 use std::thread::Threads;
@@ -24,9 +23,7 @@ pub(crate) fn searched<R: Threads + Wait + Sync>(
     rt: &R,
     alloc: Global,
     asked: AskedRun,
-) -> Result<Outcome, Fail>
-    ensures { IfOk result (λ o. length o.reports ≡ asked.plan.workers) }
-{
+) -> Result<Outcome, Fail> {
     let league = circular(alloc, asked.teams)?;
     let board = board(alloc, asked.teams, asked.room)?;
     match run(rt, alloc, &league, board, asked.plan) {
@@ -36,18 +33,14 @@ pub(crate) fn searched<R: Threads + Wait + Sync>(
 }
 
 /// The outcome of a run through a gate.
-pub(crate) fn searched_with<R: Threads + Wait + Sync, G: Gate + Sync>(
+pub(crate) fn searched_with<R: Threads + Wait + Sync + Abort, G: Gate + Sync>(
     rt: &R,
     alloc: Global,
     gate: &G,
     asked: AskedRun,
-) -> Result<Outcome, Fail>
-    ensures { IfOk result (λ o. length o.reports ≡ asked.plan.workers) }
-{
-    let league = circular(alloc, asked.teams)?;
-    let board = board(alloc, asked.teams, asked.room)?;
-    match run_with(RunContext { rt, alloc, gate }, &league, board, asked.plan) {
-        Ok(outcome) => Ok(outcome),
-        Err(refused) => Err(refused.why.into()),
-    }
+) -> Outcome {
+    let league = circle(rt, alloc, asked.teams);
+    let board = new_board(rt, alloc, circle(rt, alloc, asked.teams), asked.room);
+    let outcome = run_with(RunContext { rt, alloc, gate }, &league, board, asked.plan);
+    outcome.ok().expect(rt, "an outcome")
 }

@@ -60,3 +60,10 @@ returns-in-League g c = record {
   verdict = rw c.in-League.is c.with_rounded.ensures.verdict;
   end = rw c.in-League.is c.with_rounded.ensures.end;
 }
+
+pub returns-in-Bound : goal.returns-in-Bound
+returns-in-Bound g c = record {
+  ends = rw (c.in-Bound.is, c.without_verdict-in-Bound.ensures.outcome) c.bound_on.ensures;
+  verdict = rw c.in-Bound.is c.without_verdict-in-Bound.ensures.verdict;
+  end = rw c.in-Bound.is c.without_verdict-in-Bound.ensures.end;
+}

@@ -13,7 +13,7 @@ returns-in_err-board g c =
     rw (p.1, p.2) (ends_refused g.W.Sink.held g.W.Sink.tally
     (AnswersPlayOn c.args.room c.args.league.now (lines c.args.script.now) beginning) c.args.sink.now (λ none. none) c.in_err-board.field-0.0
     (λ not_memory. plays_not c.args.room c.args.league.now (lines c.args.script.now) beginning c.in_ok-league.league
-    c.in_ok-league.ensures.ok c.in_err-board.field-0.0 (c.in_err-board.ensures not_memory)))
+    c.in_ok-league.ensures.ok c.in_err-board.field-0.0 (c.in_err-board.ensures.fault not_memory)))
 
 pub returns : goal.returns
 returns g c =

@@ -8,7 +8,7 @@ pub returns-in_err-outcome : goal.returns-in_err-outcome
 returns-in_err-outcome g c = λ bytes beginning begins.
     let p = err_from_is_err_and c.from_residual.result c.from_residual.ensures.1 in
     rw (p.1, p.2) (ends_refused g.W.Sink.held g.W.Sink.tally (AnswersFindOn c.args.room c.args.plan None bytes beginning) c.args.sink.now
-    (λ none. none) c.in_err-outcome.field-0.0 (λ not_memory. c.in_err-outcome.ensures not_memory bytes beginning begins))
+    (λ none. none) c.in_err-outcome.field-0.0 (λ not_memory. c.in_err-outcome.ensures.fault not_memory bytes beginning begins))
 
 pub returns : goal.returns
 returns g c = λ bytes beginning begins.

@@ -8,7 +8,7 @@ pub returns-in_err-board-clause-fault : goal.returns-in_err-board-clause-fault
 returns-in_err-board-clause-fault g c =
     let p = err_from_is_err_and c.from_residual-in_err-board.result c.from_residual-in_err-board.ensures.1 in
     rw (p.1, p.2) (λ not_memory bytes beginning begins. finds_not c.args.room c.args.plan bytes beginning c.args.league.now begins
-    c.in_err-board.field-0.0 (c.in_err-board.ensures not_memory))
+    c.in_err-board.field-0.0 (c.in_err-board.ensures.fault not_memory))
 
 pub returns-in-Err-clause-fault : goal.returns-in-Err-clause-fault
 returns-in-Err-clause-fault g c =
