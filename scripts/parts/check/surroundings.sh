@@ -359,7 +359,7 @@ for shell in zsh fish; do
     judge "$shell" -n "$(find "$made/installed/share/$shell" -type f)"
 done
 name='the manual page'
-judge test "$(grep -c '^\.SH' "$made/installed/share/man/man1/ttp.1")" = 8
+judge test "$(grep -c '^\.SH' "$made/installed/share/man/man1/ttp.1")" = 9
 judge grep -q 'effort' "$made/installed/share/man/man1/ttp.1"
 if command -v groff >/dev/null; then
     judge test "$(groff -man -ww -Tutf8 "$made/installed/share/man/man1/ttp.1" 2>&1 >/dev/null)" = ''
