@@ -268,12 +268,12 @@ struct Setup {
     board: Board,
 }
 
-/// Setup of so many teams. The board has room for so many entries, or for as many as a board may have.
-fn setup_of(alloc: Global, teams: u8, count: u32) -> io::Result<Setup>
+/// Setup of a league of this size. The board has room for so many entries, or for as many as a board may have.
+fn setup_of(alloc: Global, size: u8, count: u32) -> io::Result<Setup>
     ensures board { IfOk result (λ s. s.board.history ≡ []) }
     ensures size { IfOk result (λ s. teams s.league ≡ s.copy.teams) }
 {
-    let board = board_of(alloc, teams, count)?;
+    let board = board_of(alloc, size, count)?;
     let (league, copy) = league_and_copy(alloc, &board)?;
     Ok(Setup {
         league,
