@@ -234,7 +234,7 @@ too_long() {
     (
         trap '' XFSZ
         ulimit -f 1
-        exec "${six[@]}" -o "$followed/old.txt" </dev/null 2>/dev/null | cat >/dev/null
+        exec "${six[@]}" --history -o "$followed/old.txt" </dev/null 2>/dev/null | cat >/dev/null
         exit "${PIPESTATUS[0]}"
     )
 }
