@@ -305,19 +305,6 @@ fn holds(
     }
 }
 
-#[test]
-fn words_name_files_and_keep_games(rt: HostRuntime) -> Result<(), Fail> {
-    for (given, names) in NAMES {
-        let are_named = holds(rt.alloc(), given, names, &NOTHING_KEPT)?;
-        check_holds(&rt, given, are_named);
-    }
-    for (given, kept) in KEPT {
-        let are_kept = holds(rt.alloc(), given, &NO_NAMES, kept)?;
-        check_holds(&rt, given, are_kept);
-    }
-    Ok(())
-}
-
 /// Words that are refused, beside those of `cases/misuse*`.
 const REFUSED: &[(&[&str], ErrorKind)] = &[
     (

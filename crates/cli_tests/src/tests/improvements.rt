@@ -151,34 +151,3 @@ fn histories_of_improvements_played_lead_to_their_ends(rt: HostRuntime) -> Resul
     }
     Ok(())
 }
-
-/// The text is the same with a line on the terminal, whose last one has all steps and the best total. A quarter of a second passes at each
-/// telling.
-fn check_line<T: Threads + Wait + Sync + Abort>(
-    rt: &T,
-    alloc: Global,
-    workers: u32,
-    text: &[u8],
-) -> Result<(), Fail> {
-    let mut buffer = vec![in alloc; 0; 100_000]?;
-    let mut terminal = MemorySink::new(&mut buffer);
-    let clock = Ticks::new(Some(250));
-    let line = ProgressLine::over(&clock, &mut terminal, Extent::Steps(EFFORT));
-    let gate = &line;
-    let found = improved_by(RunContext { rt, alloc, gate }, CIRCLE, workers, false)?;
-    drop(line);
-    let last = last_line(terminal.held()).ok_or("no line")?;
-    let told = (last, found.text.as_slice());
-    let wanted = ("100 % steps 16000 of 16000 best 20 left 0:00:00", text);
-    check_same_of(rt, &workers, &told, &wanted);
-    Ok(())
-}
-
-#[test]
-fn last_line_of_an_improvement_shows_all_steps(rt: HostRuntime) -> Result<(), Fail> {
-    let quiet = improved(&rt, rt.alloc(), CIRCLE, 1, false)?;
-    for workers in [1, 4, 16] {
-        check_line(&rt, rt.alloc(), workers, &quiet.text)?;
-    }
-    Ok(())
-}

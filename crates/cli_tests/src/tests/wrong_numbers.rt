@@ -74,38 +74,6 @@ fn check_told(rt: &impl Abort, alloc: Global, given: &[&str], wanted: &str) -> R
     Ok(())
 }
 
-fn check_wanted(
-    rt: &impl Abort,
-    alloc: Global,
-    numbered: &Numbered<'_>,
-    word: &str,
-) -> Result<(), Fail> {
-    let (command, option, value_name, range) = *numbered;
-    let ((before, behind), places) = (wanted(option), places(command));
-    let wanted = format!(in alloc;
-        "error: invalid value '{word}' for '{option} {value_name}': {before} {range} {behind}\n\n\
-        Usage: ttp {command} [OPTIONS] {places}\n\nFor more information, try '--help'.\n"
-    )?;
-    let attached = format!(in alloc; "{option}={word}")?;
-    check_told(rt, alloc, &["ttp", command, option, word], wanted.as_str())?;
-    check_told(
-        rt,
-        alloc,
-        &["ttp", command, attached.as_str()],
-        wanted.as_str(),
-    )
-}
-
-#[test]
-fn what_is_wanted_is_said_of_each_option(rt: HostRuntime) -> Result<(), Fail> {
-    for numbered in NUMBERED {
-        for word in NO_NUMBERS {
-            check_wanted(&rt, rt.alloc(), numbered, word)?;
-        }
-    }
-    Ok(())
-}
-
 /// An option of each range, and numbers right below and above it, or between two that it takes.
 const BEYOND: &[(Numbered<'_>, &str)] = &[
     (ROOM, "1048577"),
@@ -131,14 +99,6 @@ const BEYOND: &[(Numbered<'_>, &str)] = &[
     (HARD_WEIGHT, "0"),
     (HARD_WEIGHT, "1.5"),
 ];
-
-#[test]
-fn what_is_wanted_is_said_beyond_a_range(rt: HostRuntime) -> Result<(), Fail> {
-    for (numbered, word) in BEYOND {
-        check_wanted(&rt, rt.alloc(), numbered, word)?;
-    }
-    Ok(())
-}
 
 /// Words, and the part of their text that says what is wrong.
 const PARTS: &[(&[&str], &str)] = &[
